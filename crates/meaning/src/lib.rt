@@ -1,0 +1,1 @@
+// The meaning of automata: definitions and laws in specs/, and no function.
