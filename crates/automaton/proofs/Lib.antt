@@ -1,0 +1,4 @@
+pub mod Laws
+pub mod TableTest
+pub mod NameTest
+pub mod Meant

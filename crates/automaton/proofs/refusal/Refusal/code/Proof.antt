@@ -1,0 +1,189 @@
+-- `refusal::Refusal::code` meets its contract.
+use borrow.Author.Needs.{needs}
+use Rattle.automaton.proofs.refusal.Refusal.code.Statement.{statement}
+use Rattle.automaton.proofs.refusal.Refusal.code.Tie as tie
+
+enum-known-self : tie.Need-enum-known-self
+enum-known-self c = search needs
+
+coded-requires : tie.Need-coded-requires
+coded-requires c κs = search needs
+
+enum-known-self-2 : tie.Need-enum-known-self-2
+enum-known-self-2 c = search needs
+
+coded-requires-2 : tie.Need-coded-requires-2
+coded-requires-2 c κs = search needs
+
+enum-known-self-3 : tie.Need-enum-known-self-3
+enum-known-self-3 c = search needs
+
+coded-requires-3 : tie.Need-coded-requires-3
+coded-requires-3 c κs = search needs
+
+enum-known-self-4 : tie.Need-enum-known-self-4
+enum-known-self-4 c = search needs
+
+coded-requires-4 : tie.Need-coded-requires-4
+coded-requires-4 c κs = search needs
+
+enum-told : tie.Need-enum-told
+enum-told c = search needs
+
+coded-requires-5 : tie.Need-coded-requires-5
+coded-requires-5 c κs = search needs
+
+enum-known-self-5 : tie.Need-enum-known-self-5
+enum-known-self-5 c = search needs
+
+coded-requires-6 : tie.Need-coded-requires-6
+coded-requires-6 c κs = search needs
+
+enum-known-self-6 : tie.Need-enum-known-self-6
+enum-known-self-6 c = search needs
+
+coded-requires-7 : tie.Need-coded-requires-7
+coded-requires-7 c κs = search needs
+
+enum-known-self-7 : tie.Need-enum-known-self-7
+enum-known-self-7 c = search needs
+
+coded-requires-8 : tie.Need-coded-requires-8
+coded-requires-8 c κs = search needs
+
+enum-known-self-8 : tie.Need-enum-known-self-8
+enum-known-self-8 c = search needs
+
+coded-requires-9 : tie.Need-coded-requires-9
+coded-requires-9 c κs = search needs
+
+enum-known-self-9 : tie.Need-enum-known-self-9
+enum-known-self-9 c = search needs
+
+coded-requires-10 : tie.Need-coded-requires-10
+coded-requires-10 c κs = search needs
+
+enum-known-self-10 : tie.Need-enum-known-self-10
+enum-known-self-10 c = search needs
+
+coded-requires-11 : tie.Need-coded-requires-11
+coded-requires-11 c κs = search needs
+
+enum-known-self-11 : tie.Need-enum-known-self-11
+enum-known-self-11 c = search needs
+
+coded-requires-12 : tie.Need-coded-requires-12
+coded-requires-12 c κs = search needs
+
+enum-known-self-12 : tie.Need-enum-known-self-12
+enum-known-self-12 c = search needs
+
+coded-requires-13 : tie.Need-coded-requires-13
+coded-requires-13 c κs = search needs
+
+enum-known-self-13 : tie.Need-enum-known-self-13
+enum-known-self-13 c = search needs
+
+coded-requires-14 : tie.Need-coded-requires-14
+coded-requires-14 c κs = search needs
+
+enum-known-self-14 : tie.Need-enum-known-self-14
+enum-known-self-14 c = search needs
+
+coded-requires-15 : tie.Need-coded-requires-15
+coded-requires-15 c κs = search needs
+
+returns : tie.Need-returns
+returns c = cc
+
+returns-2 : tie.Need-returns-2
+returns-2 c = cc
+
+returns-3 : tie.Need-returns-3
+returns-3 c = cc
+
+returns-4 : tie.Need-returns-4
+returns-4 c = cc
+
+returns-5 : tie.Need-returns-5
+returns-5 c = cc
+
+returns-6 : tie.Need-returns-6
+returns-6 c = cc
+
+returns-7 : tie.Need-returns-7
+returns-7 c = cc
+
+returns-8 : tie.Need-returns-8
+returns-8 c = cc
+
+returns-9 : tie.Need-returns-9
+returns-9 c = cc
+
+returns-10 : tie.Need-returns-10
+returns-10 c = cc
+
+returns-11 : tie.Need-returns-11
+returns-11 c = cc
+
+returns-12 : tie.Need-returns-12
+returns-12 c = cc
+
+returns-13 : tie.Need-returns-13
+returns-13 c = cc
+
+returns-14 : tie.Need-returns-14
+returns-14 c = cc
+
+returns-15 : tie.Need-returns-15
+returns-15 c = cc
+
+pub code-spec : {M : Type 1} → statement M
+code-spec =
+    tie.close
+    (tie.spec
+    enum-known-self
+    coded-requires
+    enum-known-self-2
+    coded-requires-2
+    enum-known-self-3
+    coded-requires-3
+    enum-known-self-4
+    coded-requires-4
+    enum-told
+    coded-requires-5
+    enum-known-self-5
+    coded-requires-6
+    enum-known-self-6
+    coded-requires-7
+    enum-known-self-7
+    coded-requires-8
+    enum-known-self-8
+    coded-requires-9
+    enum-known-self-9
+    coded-requires-10
+    enum-known-self-10
+    coded-requires-11
+    enum-known-self-11
+    coded-requires-12
+    enum-known-self-12
+    coded-requires-13
+    enum-known-self-13
+    coded-requires-14
+    enum-known-self-14
+    coded-requires-15
+    returns
+    returns-2
+    returns-3
+    returns-4
+    returns-5
+    returns-6
+    returns-7
+    returns-8
+    returns-9
+    returns-10
+    returns-11
+    returns-12
+    returns-13
+    returns-14
+    returns-15)
