@@ -81,29 +81,30 @@ module _ {Q : Type 0} (σ : Q → ℕ → Q) {E : Q → ℕ → Type 0} {N : ℕ
           tour σ (restrict G F (λ q c e. e .0)) (wanted b) n (restrict-ok G F (λ q c e. e .0) n ok) k (l ∷ v) ne
           (walk-within σ E mark (λ i. b i ≡ true) n (l ∷ v) a (λ i m. m)) back (λ i h. met-y i (b i) refl)
 
--- ---- the product: first the sets of A, then the sets of B
+-- ---- the product
 
+-- the sets of A, and then the sets of B, in one row
 module _ (A B : Aut) where
-  pick : (i : ℕ) → Dec (i < A .sets) → Node → ℕ → Bool
-  pick i (yes h) m l = A .marks (m .0) l i
-  pick i (no h) m l = B .marks (m .1) l (i - A .sets)
+  markOf : (i : ℕ) → Dec (i < A .sets) → Node → ℕ → Bool
+  markOf i (yes h) m l = A .marks (m .0) l i
+  markOf i (no h) m l = B .marks (m .1) l (i - A .sets)
 
-  set : ℕ → Node → ℕ → Bool
-  set i = pick i (decLt i (A .sets))
+  joint : ℕ → Node → ℕ → Bool
+  joint i = markOf i (decLt i (A .sets))
 
-  set-A : (n : Node) (w : List ℕ) (i : ℕ) → i < A .sets → meets (both A B) (set i) n w ≡ seen A (n .0) w i
-  unfolding set pick
-  set-A n w i h = go (decLt i (A .sets))
+  joint-A : (n : Node) (w : List ℕ) (i : ℕ) → i < A .sets → meets (both A B) (joint i) n w ≡ seen A (n .0) w i
+  unfolding joint markOf
+  joint-A n w i h = go (decLt i (A .sets))
     where
-      go : (d : Dec (i < A .sets)) → meets (both A B) (pick i d) n w ≡ seen A (n .0) w i
+      go : (d : Dec (i < A .sets)) → meets (both A B) (markOf i d) n w ≡ seen A (n .0) w i
       go (yes g) = meets-fst A B (λ q l. A .marks q l i) n w
       go (no g) = absurd (g h)
 
-  set-B : (n : Node) (w : List ℕ) (j : ℕ) → meets (both A B) (set (A .sets + j)) n w ≡ seen B (n .1) w j
-  unfolding set pick
-  set-B n w j = go (decLt (A .sets + j) (A .sets))
+  joint-B : (n : Node) (w : List ℕ) (j : ℕ) → meets (both A B) (joint (A .sets + j)) n w ≡ seen B (n .1) w j
+  unfolding joint markOf
+  joint-B n w j = go (decLt (A .sets + j) (A .sets))
     where
-      go : (d : Dec (A .sets + j < A .sets)) → meets (both A B) (pick (A .sets + j) d) n w ≡ seen B (n .1) w j
+      go : (d : Dec (A .sets + j < A .sets)) → meets (both A B) (markOf (A .sets + j) d) n w ≡ seen B (n .1) w j
       go (yes g) = absurd (omega arith)
       go (no g) = meets-snd A B (λ q l. B .marks q l (A .sets + j - A .sets)) n w ∙ ap (seen B (n .1) w) (add-sub-cancel-left (A .sets) j)
 
@@ -125,8 +126,8 @@ same-seen {A} {B} C x y ox oy ne ca cb = (
     some = s .some;
     closed-A = ap (λ m. m .0) r;
     closed-B = ap (λ m. m .1) r;
-    same-A = λ i h. sym (set-A A B n (s .word) i h) ∙ s .same i (omega arith) ∙ set-A A B n y i h;
-    same-B = λ i h. sym (set-B A B n (s .word) i) ∙ s .same (A .sets + i) (omega arith) ∙ set-B A B n y i;
+    same-A = λ i h. sym (joint-A A B n (s .word) i h) ∙ s .same i (omega arith) ∙ joint-A A B n y i h;
+    same-B = λ i h. sym (joint-B A B n (s .word) i) ∙ s .same (A .sets + i) (omega arith) ∙ joint-B A B n y i;
   },
   s .size,
 )
@@ -137,9 +138,9 @@ same-seen {A} {B} C x y ox oy ne ca cb = (
     Letter : Node → ℕ → Type 0
     Letter m l = l < A .letters
 
-    s : Same (both A B) (numbered C Letter (λ m l h. h)) (set A B) n (A .sets + B .sets) y
+    s : Same (both A B) (numbered C Letter (λ m l h. h)) (joint A B) n (A .sets + B .sets) y
     s =
-        same-marks (both A B) (numbered C Letter (λ m l h. h)) (set A B) n (after-ok C Letter (λ m l h. h) x ox) (A .sets + B .sets) y ne
+        same-marks (both A B) (numbered C Letter (λ m l h. h)) (joint A B) n (after-ok C Letter (λ m l h. h) x ox) (A .sets + B .sets) y ne
         (over-walk (both A B) (A .letters) n y oy) (run-both A B n y ∙ (λ i. (ca i, cb i)))
 
     r : (run (A .step) (after A x) (s .word), run (B .step) (after B x) (s .word)) ≡ n

@@ -30,13 +30,13 @@ module _ {Q : Type 0} (σ : Q → ℕ → Q) {E : Q → ℕ → Type 0} {N : ℕ
   ok-run q (l ∷ w) o a = ok-run (σ q l) w (G .closed q l o (a .0)) (a .1)
 
   -- a walk in E from q to the node that w leads to
-  pub record To (q : Q) (w : List ℕ) (n : ℕ) : Type 0 where
+  pub record Shortened (q : Q) (w : List ℕ) (n : ℕ) : Type 0 where
     pub word : List ℕ
     pub walk : Walk σ E q word
     pub to : run σ q word ≡ run σ q w
     pub size : length word < n
 
-  cut-at : (q : Q) (w : List ℕ) (i j : ℕ) → i < j → j ≤ length w → Walk σ E q w → run σ q (take i w) ≡ run σ q (take j w) → To q w (length w)
+  cut-at : (q : Q) (w : List ℕ) (i j : ℕ) → i < j → j ≤ length w → Walk σ E q w → run σ q (take i w) ≡ run σ q (take j w) → Shortened q w (length w)
   cut-at q w i j h k a e = record {
     word = take i w ++ drop j w;
     walk = walk-append σ E q (take i w) (drop j w) (walk-take σ E q i w a) (subst (λ p. Walk σ E p (drop j w)) (sym e) (walk-drop σ E q j w a));
@@ -45,26 +45,26 @@ module _ {Q : Type 0} (σ : Q → ℕ → Q) {E : Q → ℕ → Type 0} {N : ℕ
   }
 
   -- a word of N letters or more passes some node twice
-  cut : (q : Q) (w : List ℕ) → G .Ok q → Walk σ E q w → N ≤ length w → To q w (length w)
+  cut : (q : Q) (w : List ℕ) → G .Ok q → Walk σ E q w → N ≤ length w → Shortened q w (length w)
   cut q w o a h = go (pigeonhole N (λ i. G .code (run σ q (take i w))) (λ i l. G .small (run σ q (take i w)) (ok i)))
     where
       ok : (i : ℕ) → G .Ok (run σ q (take i w))
       ok i = ok-run q (take i w) o (walk-take σ E q i w a)
 
-      go : Twice (λ i. G .code (run σ q (take i w))) N → To q w (length w)
+      go : Twice (λ i. G .code (run σ q (take i w))) N → Shortened q w (length w)
       go (i, j, l, m, e) = cut-at q w i j l (omega arith) a (G .same (run σ q (take i w)) (run σ q (take j w)) (ok i) (ok j) e)
 
-  short-within : (n : ℕ) (q : Q) (w : List ℕ) → length w ≤ n → G .Ok q → Walk σ E q w → To q w N
+  short-within : (n : ℕ) (q : Q) (w : List ℕ) → length w ≤ n → G .Ok q → Walk σ E q w → Shortened q w N
   short-within zero q [] h o a = record { word = []; walk = tt; to = refl; size = omega (arith, G .small q o) }
   short-within zero q (l ∷ w) h o a = absurd (omega arith)
   short-within (suc n) q w h o a = go (decLt (length w) N) (λ v k b. short-within n q v k o b)
     where
-      go : Dec (length w < N) → ((v : List ℕ) → length v ≤ n → Walk σ E q v → To q v N) → To q w N
+      go : Dec (length w < N) → ((v : List ℕ) → length v ≤ n → Walk σ E q v → Shortened q v N) → Shortened q w N
       go (yes l) ih = record { word = w; walk = a; to = refl; size = l }
       go (no l) ih =
           let c = cut q w o a (omega arith) in
           let s = ih (c .word) (omega arith) (c .walk) in
           record { word = s .word; walk = s .walk; to = s .to ∙ c .to; size = s .size }
 
-  pub short : (q : Q) (w : List ℕ) → G .Ok q → Walk σ E q w → To q w N
+  pub short : (q : Q) (w : List ℕ) → G .Ok q → Walk σ E q w → Shortened q w N
   short q w o a = short-within (length w) q w (le-refl (length w)) o a

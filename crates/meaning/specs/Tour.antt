@@ -10,7 +10,7 @@ use native.Mathlib.Omega.{arith}
 use lib.ListN.{length, length-append}
 use Rattle.meaning.specs.Tests.{or-left}
 use Rattle.meaning.specs.Walk.{run, Walk, meets, run-append, walk-append, walk-left, walk-right, meets-left, meets-right, meets-split}
-use Rattle.meaning.specs.ShortWalk.{Numbered, To, short, ok-run}
+use Rattle.meaning.specs.ShortWalk.{Numbered, Shortened, short, ok-run}
 
 module _ {Q : Type 0} (σ : Q → ℕ → Q) {E : Q → ℕ → Type 0} {N : ℕ} (G : Numbered σ E N) (kind : ℕ → Q → ℕ → Bool) (n : Q) (ok : G .Ok n) where
   -- a walk from n that meets the kinds below k, with a way home
@@ -50,7 +50,7 @@ module _ {Q : Type 0} (σ : Q → ℕ → Q) {E : Q → ℕ → Type 0} {N : ℕ
       at : Q
       at = run σ n (p .word)
 
-      s : To σ G at (p .home ++ u) N
+      s : Shortened σ G at (p .home ++ u) N
       s = short σ G at (p .home ++ u) (ok-run σ G n (p .word) ok (p .walk))
           (walk-append σ E at (p .home) u (p .home-walk) (rw (p .home-to) (walk-left σ E n u (l ∷ v) a)))
 
