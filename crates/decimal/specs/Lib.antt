@@ -1,0 +1,4 @@
+pub mod Wrote
+pub mod Writing
+pub mod Decimal
+pub mod Digits
