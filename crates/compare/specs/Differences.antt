@@ -1,0 +1,153 @@
+-- The words that the search looks for are those on which the two automata differ.
+use mathlib.Core.Path.{_≡_, refl, sym, ap, ap₂, _∙_, subst, subst₂}
+use mathlib.Core.Logic.{_≢_, _⊎_, inl, inr}
+use mathlib.Core.List.{List, [], _∷_}
+use mathlib.Core.Bool.{Bool, true, false, _||_, true≢false}
+use Prim.Native.Nat.{ℕ, _+_, _*_, _/_, _%_, _^_, _≤_, _<_}
+use native.Mathlib.Decide.{decLt}
+use native.Mathlib.Omega.{arith}
+use lib.Bits.{or-lt}
+use lib.ListN.{getD}
+use lib.Pow.{pow-mono}
+use Rattle.meaning.specs.Tests.{all, all-same}
+use Rattle.meaning.specs.BitSet.{has, has-or, has-zero}
+use Rattle.meaning.specs.Walk.{run}
+use Rattle.meaning.specs.Automata.{Aut}
+use Rattle.meaning.specs.Agreement.{Agree, Comparable, Distinguishes, Over}
+use Rattle.meaning.specs.Run.{after, seen, run-lt}
+use Rattle.meaning.specs.ClosedLoop.{verdict, Closed, CyclesAgree}
+use Rattle.meaning.specs.CycleLemma.{cycles→agree}
+use Rattle.meaning.specs.Decision.{CycleAgrees, Difference, classify, distinguishes, over-A, over-B}
+use Rattle.automaton.specs.declared.Automaton.{Automaton}
+use Rattle.automaton.specs.Value.{Valid, letters, destination, markSet}
+use Rattle.automaton.specs.View.{view, view-formed}
+use Rattle.shortest.specs.Difference.{entry, met, Shows, Tabled, Below16}
+use Rattle.compare.specs.Acceptance.{Judged, unlike, unlike-zero, zero-unlike}
+
+-- ---- the tables of a value in "The automaton"
+
+letters-le : {a : Automaton} → Valid a → letters a ≤ 16
+letters-le v = pow-mono {j = 4} (v .propositions-le)
+
+-- below c in use and 0 elsewhere
+below-16 : (n L c : ℕ) (xs : List ℕ) → c ≤ 16 → ((q l : ℕ) → q < n → l < L → entry xs q l < c)
+    → ((q l : ℕ) → q < 16 → l < 16 → (n ≤ q) ⊎ (L ≤ l) → entry xs q l ≡ 0) → Below16 xs
+below-16 n L c xs hc below zero q l hq hl = go (decLt q n) (decLt l L)
+  where
+    unused : (n ≤ q) ⊎ (L ≤ l) → entry xs q l < 16
+    unused u = omega (arith, zero q l hq hl u)
+
+    go : Dec (q < n) → Dec (l < L) → entry xs q l < 16
+    go (yes p) (yes r) = omega (arith, below q l p r)
+    go (yes p) (no r) = unused (inr (omega arith))
+    go (no p) d = unused (inl (omega arith))
+
+pub tabled : {a : Automaton} → Valid a → Tabled (a .destinations) (a .marks) (a .start)
+tabled {a} v = record {
+  next-lt = below-16 (a .states) (letters a) (a .states) (a .destinations) (v .states-le) (v .destination-lt) (v .no-destination);
+  marks-lt = below-16 (a .states) (letters a) (2 ^ a .sets) (a .marks) (pow-mono {j = 4} (v .sets-le)) (v .marks-lt) (v .no-marks);
+  start-lt = omega (arith, v .start-lt, v .states-le);
+}
+
+-- ---- the sets met along a word, as a number and as `meaning` has them
+
+met-seen : (a : Automaton) (q : ℕ) (w : List ℕ) (i : ℕ) → has (met (a .destinations) (a .marks) q w) i ≡ seen (view a) q w i
+met-seen a q [] i = has-zero i
+met-seen a q (l ∷ w) i =
+    has-or (markSet a q l) (met (a .destinations) (a .marks) (destination a q l) w) i
+    ∙ ap (λ (b : Bool). has (markSet a q l) i || b) (met-seen a (destination a q l) w i)
+
+met-lt : {a : Automaton} → Valid a → (q : ℕ) (w : List ℕ) → q < a .states → Over (letters a) w → met (a .destinations) (a .marks) q w < 16
+met-lt v q [] h o = omega arith
+met-lt {a} v q (l ∷ w) h o =
+    or-lt 4 (markSet a q l) (met (a .destinations) (a .marks) (destination a q l) w)
+    (tabled v .marks-lt q l (omega (arith, v .states-le)) (omega (arith, o .0, letters-le v)))
+    (met-lt v (destination a q l) w (v .destination-lt q l h (o .0)) (o .1))
+
+-- ---- two values in "The automaton" over the same letters, and where their acceptances differ
+pub record Pair (a b : Automaton) (H : List ℕ) : Type 0 where
+  pub valid-a : Valid a
+  pub valid-b : Valid b
+  pub same-propositions : a .propositions ≡ b .propositions
+  pub judged : Judged (a .sets) (b .sets) H
+
+-- the words that the search looks for
+abbrev pub Shown : Automaton → Automaton → List ℕ → List ℕ → List ℕ → Type 0
+Shown a b H = Shows (a .destinations) (a .marks) (b .destinations) (b .marks) H (letters a) (a .start) (b .start)
+
+module _ {a b : Automaton} {H : List ℕ} (T : Pair a b H) where
+  abbrev A : Aut
+  A = view a
+
+  abbrev B : Aut
+  B = view b
+
+  pub comparable : Comparable (view a) (view b)
+  comparable = record { formed-A = view-formed (T .valid-a); formed-B = view-formed (T .valid-b); same-letters = ap (λ k. 2 ^ k) (T .same-propositions) }
+
+  module _ (x : List ℕ) (ox : Over (letters a) x) (y : List ℕ) (oy : Over (letters a) y) where
+    met-A : ℕ
+    met-A = met (a .destinations) (a .marks) (after A x) y
+
+    met-B : ℕ
+    met-B = met (b .destinations) (b .marks) (after B x) y
+
+    lt-A : met-A < 16
+    unfolding met-A
+    lt-A = met-lt (T .valid-a) (after A x) y (run-lt (comparable .formed-A) (a .start) x (T .valid-a .start-lt) ox) oy
+
+    lt-B : met-B < 16
+    unfolding met-B
+    lt-B = met-lt (T .valid-b) (after B x) y (run-lt (comparable .formed-B) (b .start) x (T .valid-b .start-lt) (over-B comparable x ox)) (over-B comparable y oy)
+
+    verdict-A : all (a .sets) (has met-A) ≡ verdict A x y
+    unfolding met-A
+    verdict-A = all-same (a .sets) (has (met (a .destinations) (a .marks) (after A x) y)) (seen A (after A x) y) (λ i h. met-seen a (after A x) y i)
+
+    verdict-B : all (b .sets) (has met-B) ≡ verdict B x y
+    unfolding met-B
+    verdict-B = all-same (b .sets) (has (met (b .destinations) (b .marks) (after B x) y)) (seen B (after B x) y) (λ i h. met-seen b (after B x) y i)
+
+    -- the entry for what both meet along y tells whether their verdicts differ
+    hit-entry : entry H (met (a .destinations) (a .marks) (after A x) y) (met (b .destinations) (b .marks) (after B x) y) ≡ unlike (verdict A x y) (verdict B x y)
+    unfolding met-A met-B
+    hit-entry =
+        let ea : (met-A * 16 + met-B) / 16 ≡ met-A = omega (arith, lt-B) in
+        let eb : (met-A * 16 + met-B) % 16 ≡ met-B = omega (arith, lt-B) in
+        T .judged .entries (met-A * 16 + met-B) (omega (arith, lt-A, lt-B))
+        ∙ ap₂ unlike (ap (λ m. all (a .sets) (has m)) ea ∙ verdict-A) (ap (λ m. all (b .sets) (has m)) eb ∙ verdict-B)
+
+  pub shown-difference : (x y : List ℕ) → Shown a b H x y → Difference (view a) (view b) x y
+  shown-difference x y S = go (classify comparable x (S .over-x) y (S .over-y))
+    where
+      go : CycleAgrees A B x y ⊎ Difference A B x y → Difference A B x y
+      go (inl f) = absurd (S .hit (hit-entry x (S .over-x) y (S .over-y) ∙ zero-unlike (verdict A x y) (verdict B x y) (f (S .some) (S .closed-A) (S .closed-B))))
+      go (inr d) = d
+
+  shown : (x y : List ℕ) → Over (letters a) x → Over (letters a) y → y ≢ [] → Closed A x y → Closed B x y → verdict A x y ≢ verdict B x y → Shown a b H x y
+  shown x y ox oy ne ca cb v = record {
+    over-x = ox;
+    over-y = oy;
+    some = ne;
+    closed-A = ca;
+    closed-B = cb;
+    hit = λ z. v (unlike-zero (verdict A x y) (verdict B x y) (sym (hit-entry x ox y oy) ∙ z));
+  }
+
+  pub difference-shown : (x y : List ℕ) → Difference (view a) (view b) x y → Shown a b H x y
+  difference-shown x y (inl E) = shown x y (E .over-x) (E .over-y) (E .some) (E .closed-A) (E .closed-B) (λ e. true≢false (sym (E .yes-A) ∙ e ∙ E .no-B))
+  difference-shown x y (inr E) =
+      shown x y (over-A comparable x (E .over-x)) (over-A comparable y (E .over-y)) (E .some) (E .closed-B) (E .closed-A) (λ e. true≢false (sym (E .yes-A) ∙ sym e ∙ E .no-B))
+
+  -- where no word is found the automata agree
+  pub none-agree : ((x y : List ℕ) → ¬ Shown a b H x y) → Agree (view a) (view b)
+  unfolding CyclesAgree
+  none-agree none = cycles→agree comparable (λ x y ox oy ne ca cb. go x y ne ca cb (classify comparable x ox y oy))
+    where
+      go : (x y : List ℕ) → y ≢ [] → Closed A x y → Closed B x y → CycleAgrees A B x y ⊎ Difference A B x y → verdict A x y ≡ verdict B x y
+      go x y ne ca cb (inl f) = f ne ca cb
+      go x y ne ca cb (inr d) = absurd (none x y (difference-shown x y d))
+
+  -- and a word that is found distinguishes them
+  pub shown-distinguishes : (x y : List ℕ) → Shown a b H x y → Distinguishes (view a) (view b) x y
+  shown-distinguishes x y S = distinguishes comparable x y (shown-difference x y S)

@@ -1,0 +1,39 @@
+-- DEFINITION, 1 of 2: two automata given by tables, and the words that show that they differ.
+use mathlib.Core.Path.{_≡_}
+use mathlib.Core.Logic.{_≢_}
+use mathlib.Core.List.{List, [], _∷_}
+use Prim.Native.Nat.{ℕ, _+_, _*_, _<_}
+use lib.Bits.{bitOr}
+use lib.ListN.{getD}
+use Rattle.meaning.specs.Walk.{run}
+use Rattle.meaning.specs.Agreement.{Over}
+
+-- An automaton has a table of destinations and a table of sets of marks. A set of marks is a number: bit i for the set i.
+abbrev pub entry : List ℕ → ℕ → ℕ → ℕ
+entry table q l = getD table (q * 16 + l) 0
+
+-- "a set is met when the transition taken carries it": the sets met along the word w from the state q
+abbrev pub met : List ℕ → List ℕ → ℕ → List ℕ → ℕ
+met next marks q [] = 0
+met next marks q (l ∷ w) = bitOr (entry marks q l) (met next marks (entry next q l) w)
+
+-- The prefix x and the loop y, over L letters, show that two automata with the start states s and t differ: y, "read once, brings both automata back
+-- to where it began", and the first accepts and the second does not, or the other way, a run that meets on and on just the sets that they meet
+-- along y. H says so of two sets of marks: its entry is not 0.
+pub record Shows (next-A marks-A next-B marks-B H : List ℕ) (L s t : ℕ) (x y : List ℕ) : Type 0 where
+  pub over-x : Over L x
+  pub over-y : Over L y
+  pub some : y ≢ []
+  pub closed-A : run (entry next-A) (run (entry next-A) s x) y ≡ run (entry next-A) s x
+  pub closed-B : run (entry next-B) (run (entry next-B) t x) y ≡ run (entry next-B) t x
+  pub hit : entry H (met next-A marks-A (run (entry next-A) s x) y) (met next-B marks-B (run (entry next-B) t x) y) ≢ 0
+
+-- each entry is below 16
+abbrev pub Below16 : List ℕ → Type 0
+Below16 table = (q l : ℕ) → q < 16 → l < 16 → entry table q l < 16
+
+-- states and sets of marks are numbers below 16
+pub record Tabled (next marks : List ℕ) (start : ℕ) : Type 0 where
+  pub next-lt : Below16 next
+  pub marks-lt : Below16 marks
+  pub start-lt : start < 16

@@ -1,0 +1,14 @@
+pub mod Difference
+pub mod Order
+pub mod WordOrder
+pub mod Graph
+pub mod Search
+pub mod SearchWords
+pub mod ReadBack
+pub mod State
+pub mod Explored
+pub mod ClosestLoop
+pub mod Choice
+pub mod FirstLasso
+pub mod Answers
+pub mod Product

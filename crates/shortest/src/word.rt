@@ -1,0 +1,24 @@
+// The word that leads to a place, read back from edge to edge.
+use crate::places;
+ghost use mathlib.Core.Path.{_≡_};
+ghost use mathlib.Core.List.{_++_};
+ghost use Prim.Native.Nat.{_≤_};
+ghost use lib.ListN.{length, drop};
+ghost use Rattle.shortest.specs.SearchWords.{back};
+ghost use Rattle.shortest.specs.State.{view};
+ghost use Rattle.shortest.specs.ReadBack.{Chain};
+
+// The last `depth` letters of the way to the place, into the front of `out`.
+pub fn write_word(places: &[u64], place: usize, depth: usize, out: &mut [u8])
+    requires { ⌜ Chain (view (now places) .edge) (length (now places)) depth place × (depth ≤ length (now out)) ⌝ }
+    ensures { λ _. ⌜ now (out .exit) ≡ back (view (now (places .entry)) .edge) depth place ++ drop depth (now (out .entry)) ⌝ }
+{
+    let mut left = depth;
+    let mut k = place;
+    while 0 < left {
+        left -= 1;
+        let edge = places::edge(places[k]);
+        out[left] = (edge % 16) as u8;
+        k = edge / 16;
+    }
+}
