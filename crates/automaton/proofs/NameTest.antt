@@ -12,8 +12,8 @@ use lib.Seq.{ext-getD}
 use lib.Dec.{leb, eqb}
 use Rattle.meaning.specs.Tests.{and-true, and-left, and-right, truth}
 use Rattle.automaton.specs.Value.{NameByte}
-use Rattle.automaton.specs.Names.{slot, slot-length, slot-byte}
-use Rattle.automaton.specs.Tests.{lengthFits, lengthsFit, printable, byteFits, bytesFit, alike, clash, apart}
+use Rattle.automaton.specs.Names.{slot, slot-length, slot-byte, printable-means, means-printable}
+use Rattle.automaton.specs.Tests.{lengthFits, lengthsFit, byteFits, bytesFit, alike, clash, apart}
 use Rattle.automaton.proofs.Laws.{passes-at, passes-of}
 
 -- ---- lengths
@@ -44,20 +44,6 @@ module _ (k : ℕ) (lengths : List ℕ) where
       go i g (no hi) = let u : k ≤ i = omega arith in rw (le-ltb _ _ u) (eq-eqb _ _ (none i g u))
 
 -- ---- bytes
-
-printable-means : (b : ℕ) → printable b ≡ true → NameByte b
-printable-means b h =
-    let t₁ : (leb b 126 && (not (eqb b 34) && not (eqb b 92))) ≡ true = and-right (leb 32 b) _ h in
-    let t₂ : (not (eqb b 34) && not (eqb b 92)) ≡ true = and-right (leb b 126) _ t₁ in
-    record {
-      from-32 = leb-true _ _ (and-left (leb 32 b) (leb b 126 && (not (eqb b 34) && not (eqb b 92))) h);
-      to-126 = leb-true _ _ (and-left (leb b 126) (not (eqb b 34) && not (eqb b 92)) t₁);
-      no-quote = eqb-false _ _ (not-true _ (and-left (not (eqb b 34)) (not (eqb b 92)) t₂));
-      no-backslash = eqb-false _ _ (not-true _ (and-right (not (eqb b 34)) (not (eqb b 92)) t₂));
-    }
-
-means-printable : (b : ℕ) → NameByte b → printable b ≡ true
-means-printable b n = and-true (le-leb _ _ (n .from-32)) (and-true (le-leb _ _ (n .to-126)) (and-true (ap not (ne-eqb _ _ (n .no-quote))) (ap not (ne-eqb _ _ (n .no-backslash)))))
 
 -- byte j of name i stands at i * 16 + j
 name-at : (i j : ℕ) → j < 16 → (i * 16 + j) / 16 ≡ i

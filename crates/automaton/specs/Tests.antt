@@ -6,6 +6,7 @@ use lib.Dec.{ltb, leb, eqb}
 use lib.ListN.{getD}
 use Rattle.meaning.specs.Tests.{all}
 use Rattle.automaton.specs.declared.Automaton.{Automaton}
+use Rattle.automaton.specs.Value.{printable}
 
 -- p holds of every number below n
 unfoldable pub passes : ℕ → (ℕ → Bool) → Bool
@@ -26,9 +27,6 @@ lengthFits k i v = cond (ltb i k) (not (eqb v 0) && leb v 16) (eqb v 0)
 
 abbrev pub lengthsFit : List ℕ → ℕ → Bool
 lengthsFit lengths k = passes 4 (λ i. lengthFits k i (getD lengths i 0))
-
-abbrev pub printable : ℕ → Bool
-printable b = leb 32 b && (leb b 126 && (not (eqb b 34) && not (eqb b 92)))
 
 abbrev pub byteFits : ℕ → ℕ → ℕ → Bool
 byteFits i b n = cond (ltb (i % 16) n) (printable b) (eqb b 0)

@@ -1,8 +1,10 @@
 -- DEFINITIONS: what a value of the type `Automaton` holds, and which values lie in document 01's "The automaton".
 use mathlib.Core.Path.{_≡_}
 use mathlib.Core.Logic.{_≢_, _⊎_}
+use mathlib.Core.Bool.{Bool, not, _&&_}
 use mathlib.Core.List.{List}
 use Prim.Native.Nat.{ℕ, _+_, _*_, _^_, _≤_, _<_}
+use lib.Dec.{leb, eqb}
 use lib.ListN.{length, getD, take, drop, replicate}
 use Rattle.automaton.specs.declared.Automaton.{Automaton}
 
@@ -43,7 +45,10 @@ empty = record {
 
 -- ---- "The automaton"
 
--- "32 to 126 without quote and backslash"
+-- "32 to 126 without quote and backslash", as a test and as a fact
+abbrev pub printable : ℕ → Bool
+printable b = leb 32 b && (leb b 126 && (not (eqb b 34) && not (eqb b 92)))
+
 pub record NameByte (b : ℕ) : Type 0 where
   pub from-32 : 32 ≤ b
   pub to-126 : b ≤ 126

@@ -2,7 +2,8 @@
 use crate::Automaton;
 ghost use mathlib.Core.Path.{_≡_};
 ghost use Prim.Native.Nat.{_<_};
-ghost use Rattle.automaton.specs.Tests.{named, lengthsFit, lengthFits, bytesFit, byteFits, printable, apart, clash, alike};
+ghost use Rattle.automaton.specs.Value.{printable};
+ghost use Rattle.automaton.specs.Tests.{named, lengthsFit, lengthFits, bytesFit, byteFits, apart, clash, alike};
 
 // Whether the first `count` names are of 1 to 16 bytes that HOA can give, no two alike, and all other slots are 0.
 pub fn named(

@@ -1,0 +1,94 @@
+-- The header: each item takes a token.
+use mathlib.Core.Path.{_≡_}
+use mathlib.Core.Bool.{Bool, true, false, _||_, _&&_}
+use mathlib.Core.List.{List, [], _∷_, _++_}
+use mathlib.Core.Option.{Option, none, some}
+use Prim.Native.Nat.{ℕ, zero, suc, _≤_, _<_}
+use native.Mathlib.Omega.{arith}
+use lib.Dec.{ltb, leb}
+use lib.ListN.{length}
+use Rattle.automaton.specs.Value.{printable}
+use Rattle.hoa_text.specs.Basics.{option, isSome}
+use Rattle.hoa_text.specs.Tokens.{Token, Stream, stands, over, broken}
+use Rattle.hoa_text.specs.Grammar.{numberOf, quotedOf, itemOf, isItem, isSign, next, rest, at, Result, gives, refuses, Parsed, due, onward, Turn, turn, size, repeat}
+use Rattle.hoa_text.specs.Header.{Items, Header, allBytes, among, once, statesGiven, statesItem, startGiven, startItem, nameGiven, naming, namesRead, namesGiven, namesItem, condition, departs, accepting, setsRead, setsGiven, setsItem, plain, skipped, small, opening, opened, itemRead}
+use Rattle.hoa_text.specs.Repetition.{Every, every-after, on-cond, Fewer, Shrinks, repeat-turn}
+use Rattle.hoa_text.specs.Progress.{rest-size, next-size, Leaves, rest-leaves, most-leaves, then-leaves, due-leaves, onward-fewer}
+
+-- ---- the items
+
+statesItem-leaves : (h : Items) (s : Stream) → Leaves (size s) (statesItem h s)
+statesItem-leaves h s =
+    then-leaves (size s) (due numberOf s) (statesGiven h (at s)) (due-leaves numberOf s)
+    (λ n u. on-cond (Leaves (suc (size u))) (ltb 0 n && leb n 16) _ _ (λ e. omega arith) (λ e. tt))
+
+startItem-leaves : (h : Items) (s : Stream) → Leaves (size s) (startItem h s)
+startItem-leaves h s = then-leaves (size s) (due numberOf s) (startGiven h (at s)) (due-leaves numberOf s) (λ q u. omega arith)
+
+name-leaves : {A : Type 0} (n : ℕ) (ws : List (List ℕ)) (o : ℕ) (w : List ℕ) (x : Parsed A) → Leaves n x → Leaves n (nameGiven ws o w x)
+name-leaves n ws o w x h =
+    on-cond (Leaves n) (allBytes printable w) _ _
+    (λ e. on-cond (Leaves n) (ltb 0 (length w) && leb (length w) 16) _ _ (λ e. on-cond (Leaves n) (among w ws) _ _ (λ e. tt) (λ e. h)) (λ e. tt)) (λ e. tt)
+
+naming-leaves : (n : ℕ) (ws : List (List ℕ)) (s : Stream) → Leaves (suc (size s)) (naming n ws s)
+naming-leaves zero ws s = omega arith
+naming-leaves (suc n) ws s =
+    then-leaves (suc (size s)) (due quotedOf s) (λ w u. nameGiven ws (at s) w (naming n (ws ++ (w ∷ [])) u)) (most-leaves s (due quotedOf s) (due-leaves quotedOf s))
+    (λ w u. name-leaves (suc (size u)) ws (at s) w (naming n (ws ++ (w ∷ [])) u) (naming-leaves n (ws ++ (w ∷ [])) u))
+
+namesItem-leaves : (h : Items) (s : Stream) → Leaves (size s) (namesItem h s)
+namesItem-leaves h s =
+    then-leaves (size s) (due numberOf s) (namesGiven h (at s)) (due-leaves numberOf s)
+    (λ k u. on-cond (Leaves (suc (size u))) (leb k 4) _ _
+    (λ e. then-leaves (suc (size u)) (naming k [] u) (namesRead h) (naming-leaves k [] u) (λ ws v. omega arith)) (λ e. tt))
+
+pub every-departs : (Q : ℕ × Stream → Type 0) (s : Stream) → Every Q (departs s)
+every-departs Q s = on-cond (Every Q) (next (λ t. true) s) _ _ (λ e. tt) (λ e. tt)
+
+accepting-leaves : (m : ℕ) (ps : List (Token → Bool)) (s : Stream) → Leaves (suc (size s)) (accepting m ps s)
+accepting-leaves m [] s =
+    on-cond (Leaves (suc (size s))) (next (λ t. isSome (itemOf t) || isSign "--BODY--" t) s) _ _
+    (λ e. omega arith) (λ e. every-departs (λ y. size (y .1) < suc (size s)) s)
+accepting-leaves m (p ∷ ps) s =
+    on-cond (Leaves (suc (size s))) (next p s) _ _
+    (λ e. fewer (accepting m ps (rest s)) (accepting-leaves m ps (rest s))) (λ e. every-departs (λ y. size (y .1) < suc (size s)) s)
+  where
+    fewer : (x : Parsed ℕ) → Leaves (suc (size (rest s))) x → Leaves (suc (size s)) x
+    fewer (gives y) h = omega (arith, rest-size s)
+    fewer (refuses r) h = tt
+
+setsItem-leaves : (h : Items) (s : Stream) → Leaves (size s) (setsItem h s)
+setsItem-leaves h s =
+    then-leaves (size s) (due numberOf s) (setsGiven h (at s)) (due-leaves numberOf s)
+    (λ m u. on-cond (Leaves (suc (size u))) (leb m 4) _ _
+    (λ e. then-leaves (suc (size u)) (accepting m (condition m) u) (setsRead h) (accepting-leaves m (condition m) u) (λ k v. omega arith)) (λ e. tt))
+
+skipped-size : (s : Stream) → size (skipped s) ≤ size s
+skipped-size (stands o t s) =
+    on-cond (λ u. size u ≤ suc (size s)) (plain t) (skipped s) (stands o t s) (λ e. omega (arith, skipped-size s)) (λ e. omega arith)
+skipped-size (over o) = omega arith
+skipped-size (broken q o) = omega arith
+
+-- ---- no bound is met
+
+item-fewer : {A : Type 0} (p : Token → Bool) (x : Option A) (read : Stream → Parsed Items) → ((u : Stream) → Leaves (size u) (read u))
+    → (s : Stream) → next p s ≡ true → Every (Fewer (size s)) (onward {B = Header × Stream} (once x (at s) (read (rest s))))
+item-fewer p none read g s e = onward-fewer (Header × Stream) p s (read (rest s)) e (g (rest s))
+item-fewer p (some a) read g s e = tt
+
+other-fewer : (s : Stream) → next (λ t. option (itemOf t) false small) s ≡ true → size (skipped (rest s)) < size s
+other-fewer s e = omega (arith, next-size (λ t. option (itemOf t) false small) s e, skipped-size (rest s))
+
+pub item-shrinks : Shrinks itemRead
+unfolding itemRead
+item-shrinks h s =
+    let P : Result (Turn Items (Header × Stream)) → Type 0 = Every (Fewer (size s)) in
+    on-cond P (next (isItem "States") s) _ _ (item-fewer (isItem "States") (h .states) (statesItem h) (statesItem-leaves h) s)
+    (λ e. on-cond P (next (isItem "Start") s) _ _ (item-fewer (isItem "Start") (h .start) (startItem h) (startItem-leaves h) s)
+    (λ e. on-cond P (next (isItem "AP") s) _ _ (item-fewer (isItem "AP") (h .names) (namesItem h) (namesItem-leaves h) s)
+    (λ e. on-cond P (next (isItem "Acceptance") s) _ _ (item-fewer (isItem "Acceptance") (h .sets) (setsItem h) (setsItem-leaves h) s)
+    (λ e. on-cond P (next (λ t. option (itemOf t) false small) s) _ _ (other-fewer s)
+    (λ e. on-cond P (next (isSign "--BODY--") s) _ _ (λ e. every-after (Fewer (size s)) (opening h (at s) (rest s)) opened (λ g u. tt)) (λ e. tt))))))
+
+pub items-turn : (h : Items) (s : Stream) → repeat itemRead h s ≡ turn (itemRead h s) (repeat itemRead)
+items-turn h s = repeat-turn itemRead item-shrinks h s

@@ -1,0 +1,115 @@
+-- A body that is read keeps to its header: destinations, marks, states and letters that there are.
+use mathlib.Core.Bool.{cond, _&&_}
+use mathlib.Core.Option.{Option, none, some}
+use Prim.Native.Nat.{ℕ, _^_, _<_}
+use native.Mathlib.Omega.{arith}
+use borrow.Author.Tests.{ltb-true, eqb-true}
+use lib.Bits.{bitOr, or-lt}
+use lib.Dec.{ltb, eqb}
+use lib.ListN.{length}
+use lib.Pow.{pow-lt, pow-pos}
+use Rattle.meaning.specs.Tests.{and-left, and-right}
+use Rattle.automaton.specs.declared.refusal.Refusal.{Refusal}
+use Rattle.automaton.specs.declared.refusal.Refusal.the-variants.{Form, Undeclared}
+use Rattle.hoa_text.specs.Basics.{option}
+use Rattle.hoa_text.specs.Tokens.{Stream, stands, over, broken}
+use Rattle.hoa_text.specs.Grammar.{numberOf, isItem, isSign, next, rest, at, gives, refuses, Parsed, due, Turn, onward}
+use Rattle.hoa_text.specs.Labels.{Formula, holds, label}
+use Rattle.hoa_text.specs.Header.{Header}
+use Rattle.hoa_text.specs.Body.{Edge, Table, noStates, letters, stateGiven, stateItem, marks, marked, withEdge, secondEdge, marksGiven, destinationGiven, labelGiven, edge, bodyRead, body}
+use Rattle.hoa_text.specs.Repetition.{Every, every-then, every-after, every-onward, on-cond, Both, every-repeat}
+use Rattle.hoa_text.specs.HeaderFits.{Where}
+
+-- the transition from q by l
+pub record EdgeFits (h : Header) (q l : ℕ) (e : Edge) : Type 0 where
+  pub state-lt : q < h .states
+  pub letter-lt : l < letters h
+  pub destination-lt : e .destination < h .states
+  pub marks-lt : e .marks < 2 ^ h .sets
+
+pub record TableFits (h : Header) (t : Table) : Type 0 where
+  pub edge-fits : (q l : ℕ) → Where (EdgeFits h q l) (t .edge q l)
+  pub current-lt : Where (λ q. q < h .states) (t .current)
+
+module _ (h : Header) where
+  abbrev Fit : Table × Stream → Type 0
+  Fit y = TableFits h (y .0)
+
+  marks-fit : (m : ℕ) (s : Stream) → m < 2 ^ h .sets → Every (λ y. y .0 < 2 ^ h .sets) (marks (h .sets) m s)
+  marks-fit m (stands o t s) g = go (numberOf t) (λ i k. marks-fit (bitOr m (2 ^ i)) s k)
+    where
+      P : Parsed ℕ → Type 0
+      P = Every (λ y. y .0 < 2 ^ h .sets)
+
+      more : ℕ → Parsed ℕ
+      more i = cond (ltb i (h .sets)) (marks (h .sets) (bitOr m (2 ^ i)) s) (refuses (Undeclared o))
+
+      go : (x : Option ℕ) → ((i : ℕ) → bitOr m (2 ^ i) < 2 ^ h .sets → P (marks (h .sets) (bitOr m (2 ^ i)) s))
+          → P (option x (cond (isSign "}" t) (gives (m, s)) (refuses (Form o))) more)
+      go none k = on-cond P (isSign "}" t) (gives (m, s)) (refuses (Form o)) (λ e. g) (λ e. tt)
+      go (some i) k =
+          on-cond P (ltb i (h .sets)) (marks (h .sets) (bitOr m (2 ^ i)) s) (refuses (Undeclared o))
+          (λ e. k i (or-lt (h .sets) m (2 ^ i) g (pow-lt (ltb-true i (h .sets) e)))) (λ e. tt)
+  marks-fit m (over o) g = tt
+  marks-fit m (broken q o) g = tt
+
+  marked-fit : (s : Stream) → Every (λ y. y .0 < 2 ^ h .sets) (marked (h .sets) s)
+  marked-fit s =
+      on-cond (Every (λ y. y .0 < 2 ^ h .sets)) (next (isSign "{") s) (marks (h .sets) 0 (rest s)) (gives (0, s))
+      (λ e. marks-fit 0 (rest s) (pow-pos (h .sets))) (λ e. pow-pos (h .sets))
+
+  module _ (t : Table) (g : TableFits h t) where
+    stateItem-fits : (s : Stream) → Every Fit (stateItem h t s)
+    stateItem-fits s = every-after Fit (due numberOf s) (stateGiven h t (at s)) λ p u.
+        on-cond (Every Fit) (ltb p (h .states)) _ _
+        (λ e. on-cond (Every Fit) (t .named p) _ _ (λ e. tt) (λ k. record { edge-fits = g .edge-fits; current-lt = ltb-true p (h .states) e })) (λ e. tt)
+
+    withEdge-fits : (q : ℕ) (f : Formula) (d m : ℕ) → q < h .states → d < h .states → m < 2 ^ h .sets → TableFits h (withEdge h t q f d m)
+    withEdge-fits q f d m hq hd hm = record { edge-fits = fits; current-lt = g .current-lt }
+      where
+        new : Edge
+        new = record { destination = d; marks = m }
+
+        fits : (p l : ℕ) → Where (EdgeFits h p l) (withEdge h t q f d m .edge p l)
+        fits p l =
+            on-cond (Where (EdgeFits h p l)) (eqb p q && (ltb l (letters h) && holds f l)) (some new) (t .edge p l)
+            (λ e. record {
+              state-lt = omega (arith, eqb-true p q (and-left (eqb p q) (ltb l (letters h) && holds f l) e));
+              letter-lt = ltb-true l (letters h) (and-left (ltb l (letters h)) (holds f l) (and-right (eqb p q) (ltb l (letters h) && holds f l) e));
+              destination-lt = hd;
+              marks-lt = hm;
+            })
+            (λ e. g .edge-fits p l)
+
+    marksGiven-fits : (q : ℕ) (f : Formula) (d m : ℕ) → q < h .states → d < h .states → m < 2 ^ h .sets → (s : Stream) → Every Fit (marksGiven h t q f d m s)
+    marksGiven-fits q f d m hq hd hm s = go (secondEdge h t q f)
+      where
+        go : (x : Option Refusal) → Every Fit (option x (gives (withEdge h t q f d m, s)) refuses)
+        go none = withEdge-fits q f d m hq hd hm
+        go (some r) = tt
+
+    edge-fits : (q : ℕ) → q < h .states → (s : Stream) → Every Fit (edge h t q s)
+    edge-fits q hq s =
+        every-after Fit (label (length (h .names)) s) (labelGiven h t q) λ f u.
+        on-cond (Every Fit) (next (isSign "]") u) _ _ (λ e.
+        every-after Fit (due numberOf (rest u)) (destinationGiven h t q f (at (rest u))) λ d v.
+        on-cond (Every Fit) (ltb d (h .states)) _ _ (λ l.
+        every-then (λ m w. m < 2 ^ h .sets) Fit (marked (h .sets) v) (marksGiven h t q f d) (marked-fit v) (λ m w k.
+        marksGiven-fits q f d m hq (ltb-true d (h .states) l) k w)) (λ e. tt)) (λ e. tt)
+
+  abbrev Kept : Turn Table (Table × Stream) → Type 0
+  Kept = Both (λ t u. TableFits h t) Fit
+
+  body-kept : (t : Table) (s : Stream) → TableFits h t → Every Kept (bodyRead h t s)
+  unfolding bodyRead
+  body-kept t s g =
+      on-cond (Every Kept) (next (isItem "State") s) _ _ (λ e. every-onward (λ t u. TableFits h t) Fit (stateItem h t (rest s)) (stateItem-fits t g (rest s)))
+      (λ e. on-cond (Every Kept) (next (isSign "[") s) _ _ (λ e. edged (t .current) (g .current-lt))
+      (λ e. on-cond (Every Kept) (next (isSign "--END--") s) _ _ (λ e. g) (λ e. tt)))
+    where
+      edged : (x : Option ℕ) → Where (λ q. q < h .states) x → Every Kept (option x (refuses (Form (at s))) (λ q. onward {B = Table × Stream} (edge h t q (rest s))))
+      edged none l = tt
+      edged (some q) l = every-onward (λ t u. TableFits h t) Fit (edge h t q (rest s)) (edge-fits t g q l (rest s))
+
+  pub body-fits : (s : Stream) → Every (λ y. TableFits h (y .0)) (body h s)
+  body-fits s = every-repeat (bodyRead h) (λ t u. TableFits h t) Fit body-kept noStates s (record { edge-fits = λ q l. tt; current-lt = tt })

@@ -1,0 +1,159 @@
+-- The text that is written of an automaton has at most 8,192 bytes.
+use mathlib.Core.Path.{_≡_}
+use mathlib.Core.Bool.{Bool, true, false, cond}
+use mathlib.Core.List.{List, [], _∷_, _++_}
+use Prim.Native.Nat.{ℕ, zero, suc, _+_, _*_, _≤_, _<_}
+use Prim.Native.String.{String}
+use native.Mathlib.Omega.{arith}
+use lib.ListN.{length, length-append}
+use lib.Dec.{ltb, eqb}
+use lib.Pow.{pow-mono}
+use borrow.Author.Tests.{lt-ltb}
+use Rattle.meaning.specs.BitSet.{has}
+use Rattle.automaton.specs.declared.Automaton.{Automaton}
+use Rattle.automaton.specs.Value.{Valid, letters, destination, markSet, name}
+use Rattle.hoa_text.specs.Basics.{bytes, each}
+use Rattle.hoa_text.specs.Written.{decimal, followed, separated, line, statesLine, startLine, quotedName, namesLine, namesPart, infOf, conditionOf, acceptanceLine, bodyLine, stateLine, literalOf, labelOf, members, marksOf, edgeLine, stateLines, endLine, text}
+use Rattle.hoa_text.specs.Names.{name-length}
+
+-- ---- pieces
+
+cond-le : (b : Bool) (x y : List ℕ) (c : ℕ) → length x ≤ c → length y ≤ c → length (cond b x y) ≤ c
+cond-le true x y c h g = h
+cond-le false x y c h g = g
+
+each-le : (n c : ℕ) (f : ℕ → List ℕ) → ((i : ℕ) → i < n → length (f i) ≤ c) → length (each n f) ≤ c * n
+each-le zero c f h = omega arith
+each-le (suc n) c f h = omega (arith, length-append (each n f) (f n), each-le n c f (λ i g. h i (omega arith)), h n (omega arith))
+
+decimal-le : (n : ℕ) → length (decimal n) ≤ 2
+decimal-le n = cond-le (ltb n 10) _ _ 2 (omega arith) (omega arith)
+
+digit-le : (n : ℕ) → n < 10 → length (decimal n) ≤ 1
+digit-le n h = rw (lt-ltb n 10 h) (omega arith)
+
+-- the lengths together, and c more for each text
+total : ℕ → List (List ℕ) → ℕ
+total c [] = 0
+total c (u ∷ us) = length u + c + total c us
+
+total-append : (c : ℕ) (us vs : List (List ℕ)) → total c (us ++ vs) ≡ total c us + total c vs
+unfolding total
+total-append c [] vs = omega arith
+total-append c (u ∷ us) vs = omega (arith, total-append c us vs)
+
+total-each : (c d n : ℕ) (f : ℕ → List (List ℕ)) → ((i : ℕ) → i < n → total c (f i) ≤ d) → total c (each n f) ≤ d * n
+unfolding total
+total-each c d zero f h = omega arith
+total-each c d (suc n) f h = omega (arith, total-append c (each n f) (f n), total-each c d n f (λ i g. h i (omega arith)), h n (omega arith))
+
+followed-le : (w : String) (us : List (List ℕ)) → length (followed w us) ≤ total (length (bytes w)) us
+unfolding total
+followed-le w [] = omega arith
+followed-le w (u ∷ us) = omega (arith, length-append (bytes w) (u ++ followed w us), length-append u (followed w us), followed-le w us)
+
+separated-le : (w : String) (us : List (List ℕ)) → length (separated w us) ≤ total (length (bytes w)) us
+unfolding total
+separated-le w [] = omega arith
+separated-le w (u ∷ us) = omega (arith, length-append u (followed w us), followed-le w us)
+
+literal-le : (l i : ℕ) → i < 10 → length (literalOf l i) ≤ 2
+literal-le l i h = cond-le (has l i) _ _ 2 (omega (arith, digit-le i h)) (omega (arith, digit-le i h))
+
+label-le : (k l : ℕ) → k ≤ 4 → length (labelOf k l) ≤ 12
+unfolding total
+label-le zero l h = omega arith
+label-le (suc k) l h =
+    let literals : ℕ → List (List ℕ) = λ i. literalOf l i ∷ [] in
+    omega (arith, separated-le "&" (each (suc k) literals), total-each 1 3 (suc k) literals (λ i g. omega (arith, literal-le l i (omega arith))))
+
+marks-le : (n m : ℕ) → n ≤ 4 → length (marksOf n m) ≤ 11
+unfolding total
+marks-le n m h =
+    cond-le (eqb m 0) [] (bytes " {" ++ (separated " " us ++ bytes "}")) 11 (omega arith)
+    (omega (arith, length-append (separated " " us) (bytes "}"), separated-le " " us, all-le))
+  where
+    us : List (List ℕ)
+    us = members n m
+
+    one : (i : ℕ) (b : Bool) → i < 10 → total 1 (cond b (decimal i ∷ []) []) ≤ 2
+    one i true h = omega (arith, digit-le i h)
+    one i false h = omega arith
+
+    all-le : total 1 us ≤ 2 * n
+    all-le = total-each 1 2 n (λ i. cond (has m i) (decimal i ∷ []) []) (λ i g. one i (has m i) (omega arith))
+
+condition-le : (m : ℕ) → m ≤ 4 → length (conditionOf m) ≤ 32
+unfolding total
+condition-le zero h = omega arith
+condition-le (suc m) h =
+    let infs : ℕ → List (List ℕ) = λ i. infOf i ∷ [] in
+    omega (arith, separated-le "&" (each (suc m) infs), total-each 1 8 (suc m) infs (λ i g. omega (arith, length-append (decimal i) (bytes ")"), decimal-le i)))
+
+-- ---- lines
+
+line-le : (u : List ℕ) (c : ℕ) → length u ≤ c → length (line u) ≤ c + 1
+line-le u c h = omega (arith, length-append u (10 ∷ []))
+
+module _ (a : Automaton) (v : Valid a) where
+  edge-le : (q l : ℕ) → length (edgeLine a q l) ≤ 29
+  edge-le q l =
+      let w = labelOf (a .propositions) l in
+      let d = decimal (destination a q l) in
+      let m = marksOf (a .sets) (markSet a q l) in
+      line-le (bytes "[" ++ (w ++ (bytes "] " ++ (d ++ m)))) 28
+      (omega (
+        arith,
+        length-append w (bytes "] " ++ (d ++ m)),
+        length-append d m,
+        label-le (a .propositions) l (v .propositions-le),
+        decimal-le (destination a q l),
+        marks-le (a .sets) (markSet a q l) (v .sets-le),
+      ))
+
+  state-le : (q : ℕ) → length (stateLines a q) ≤ 474
+  state-le q =
+      let few : letters a ≤ 16 = pow-mono {j = 4} (v .propositions-le) in
+      let first : length (stateLine q) ≤ 10 = line-le (bytes "State: " ++ decimal q) 9 (omega (arith, decimal-le q)) in
+      omega (arith, length-append (stateLine q) (each (letters a) (edgeLine a q)), each-le (letters a) 29 (edgeLine a q) (λ l g. edge-le q l))
+
+  quoted-le : (i : ℕ) → i < a .propositions → length (quotedName a i) ≤ 19
+  quoted-le i h = omega (arith, length-append (name a i) (bytes "\""), name-length a v i h, v .name-le i h)
+
+  names-le : length (namesPart a) ≤ 83
+  names-le =
+      let k = a .propositions in
+      let ns = each k (quotedName a) in
+      cond-le (eqb k 0) [] (namesLine a) 83 (omega arith) (line-le (bytes "AP: " ++ (decimal k ++ ns)) 82
+      (omega (arith, length-append (decimal k) ns, decimal-le k, each-le k 19 (quotedName a) quoted-le, v .propositions-le)))
+
+  acceptance-le : length (acceptanceLine a) ≤ 48
+  acceptance-le =
+      let c = bytes " " ++ conditionOf (a .sets) in
+      line-le (bytes "Acceptance: " ++ (decimal (a .sets) ++ c)) 47
+      (omega (arith, length-append (decimal (a .sets)) c, decimal-le (a .sets), condition-le (a .sets) (v .sets-le)))
+
+  -- ---- the text
+
+  pub text-le : length (text a) ≤ 8192
+  unfolding text
+  text-le =
+      let b = each (a .states) (stateLines a) in
+      let r₅ = bodyLine ++ (b ++ endLine) in
+      let r₄ = acceptanceLine a ++ r₅ in
+      let r₃ = namesPart a ++ r₄ in
+      let r₂ = startLine a ++ r₃ in
+      let states : length (statesLine a) ≤ 11 = line-le (bytes "States: " ++ decimal (a .states)) 10 (omega (arith, decimal-le (a .states))) in
+      let start : length (startLine a) ≤ 10 = line-le (bytes "Start: " ++ decimal (a .start)) 9 (omega (arith, decimal-le (a .start))) in
+      omega (
+        arith,
+        length-append (statesLine a) r₂,
+        length-append (startLine a) r₃,
+        length-append (namesPart a) r₄,
+        length-append (acceptanceLine a) r₅,
+        length-append b endLine,
+        names-le,
+        acceptance-le,
+        each-le (a .states) 474 (stateLines a) (λ q g. state-le q),
+        v .states-le,
+      )
