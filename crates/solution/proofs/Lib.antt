@@ -1,0 +1,5 @@
+pub mod Laws
+pub mod PlaceTags
+pub mod VerdictTags
+pub mod Signs
+pub mod CallLaws

@@ -1,0 +1,13 @@
+pub mod SolverText
+pub mod Assignment
+pub mod Machine
+pub mod Calls
+pub mod Objection
+pub mod Cases
+pub mod Counts
+pub mod Range
+pub mod Spelling
+pub mod Table
+pub mod Agreement
+pub mod Pieces
+pub mod Stated
