@@ -1,6 +1,5 @@
 -- An answer about some words is one about others: words that are described otherwise, or all words where only those that fit were looked for.
-use mathlib.Core.Path.{_≡_}
-use mathlib.Core.Logic.{_⊎_, inl, inr}
+use mathlib.Core.Logic.{inl, inr}
 use mathlib.Core.List.{List}
 use Prim.Native.Nat.{ℕ, _+_, _≤_, _<_}
 use native.Mathlib.Decide.{decLt}
@@ -8,7 +7,7 @@ use native.Mathlib.Omega.{arith}
 use lib.ListN.{length}
 use Rattle.shortest.specs.declared.Verdict.{Verdict}
 use Rattle.shortest.specs.declared.Verdict.the-variants.{Same, Differ}
-use Rattle.shortest.specs.Order.{Precedes, Within, Found, Answer}
+use Rattle.shortest.specs.Order.{Precedes, Within, Answer}
 
 module _ {Q R : List ℕ → List ℕ → Type 0} (prefix written-prefix cycle written-cycle : List ℕ) where
   -- the words of the one are those of the other, but for words of the other that come later than one of the former

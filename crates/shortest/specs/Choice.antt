@@ -1,12 +1,13 @@
 -- The choice among the places of the outer search: the first place with the least total, of the word that leads there and the shortest loop there.
-use mathlib.Core.Path.{_≡_, refl, sym, ap, _∙_, subst}
+use mathlib.Core.Path.{_≡_, refl, sym, subst}
 use mathlib.Core.List.{List}
-use Prim.Native.Nat.{ℕ, suc, _+_, _≤_, _<_}
+use Prim.Native.Nat.{ℕ, _+_, _≤_, _<_}
 use native.Mathlib.Decide.{ℕ-discrete}
 use native.Mathlib.Omega.{arith}
+use borrow.Author.Count.{below-more}
 use lib.ListN.{length}
 use Rattle.shortest.specs.Graph.{at, HitLoop}
-use Rattle.shortest.specs.State.{nodeOf, depthOf}
+use Rattle.shortest.specs.Packing.{nodeOf, depthOf}
 use Rattle.shortest.specs.ClosestLoop.{LoopLength}
 
 -- of the first i places b is the best, with the total t, as far as loops of at most `bound` letters go; or n, with the total that stands for none
@@ -39,14 +40,6 @@ choosing-none = record {
 
 module _ {D H places : List ℕ} {L bound none n i b t v d r l : ℕ} (g : i < n) (C : Choosing D H places L bound none n i b t)
     (ev : v ≡ nodeOf (at places i)) (ed : d ≡ depthOf (at places i)) (R : Room t d bound r) (X : LoopLength D H L v r l) where
-  -- below i + 1: below i, or i
-  upto : (Q : ℕ → Type 0) → ((k : ℕ) → k < i → Q k) → Q i → (k : ℕ) → k < i + 1 → Q k
-  upto Q old here k h = go (ℕ-discrete i k)
-    where
-      go : Dec (i ≡ k) → Q k
-      go (yes e) = subst Q e here
-      go (no e) = old k (omega arith)
-
   abbrev Least : ℕ → ℕ → Type 0
   Least s k = (y : List ℕ) → HitLoop D H L (nodeOf (at places k)) y → length y ≤ bound → s ≤ depthOf (at places k) + length y
 
@@ -58,7 +51,7 @@ module _ {D H places : List ℕ} {L bound none n i b t v d r l : ℕ} (g : i < n
     high = C .high;
     start = C .start;
     found = C .found;
-    least = upto (Least t) (C .least) (λ y s h. omega (arith, R .more (length y) h (X .none z y (at-node y s))));
+    least = below-more (Least t) i (C .least) (λ y s h. omega (arith, R .more (length y) h (X .none z y (at-node y s))));
     first = C .first;
   }
 
@@ -70,7 +63,7 @@ module _ {D H places : List ℕ} {L bound none n i b t v d r l : ℕ} (g : i < n
         high = omega arith;
         start = λ z. absurd (omega arith);
         found = λ h. (y, subst (λ c. HitLoop D H L c y) ev s, omega (arith, X .fits, R .fits), omega arith);
-        least = upto (Least (d + l)) (λ k h w q b. omega (arith, C .least k h w q b)) (λ w q b. omega (arith, X .least w (at-node w q)));
+        least = below-more (Least (d + l)) i (λ k h w q b. omega (arith, C .least k h w q b)) (λ w q b. omega (arith, X .least w (at-node w q)));
         first = λ h k z w q b. omega (arith, C .least k z w q b);
       }
 

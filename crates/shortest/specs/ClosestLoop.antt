@@ -1,17 +1,18 @@
 -- The first loop at a node that is a hit, as a search from that node finds it.
-use mathlib.Core.Path.{_≡_, refl, sym, ap, _∙_, subst}
-use mathlib.Core.Logic.{_≢_, _⊎_, inl, inr}
-use mathlib.Core.List.{List, [], _++_}
-use Prim.Native.Nat.{ℕ, suc, _≤_, _<_}
+use mathlib.Core.Path.{_≡_, sym, ap, _∙_, subst}
+use mathlib.Core.Logic.{_⊎_, inl, inr}
+use mathlib.Core.List.{List, _++_}
+use Prim.Native.Nat.{ℕ, _/_, _≤_, _<_}
 use native.Mathlib.Decide.{decLt, ℕ-discrete}
 use native.Mathlib.Omega.{arith}
 use lib.ListN.{length, drop}
-use Rattle.meaning.specs.Walk.{run}
-use Rattle.shortest.specs.WordOrder.{Earlier, NotLater, earlier-trans, not-later-length}
-use Rattle.shortest.specs.SearchWords.{back, word, length-word, depth-le, word-over, word-run, words-rise, Reached, Beyond, reached}
+use Rattle.shortest.specs.WordOrder.{NotLater, earlier-trans, not-later-length}
+use Rattle.shortest.specs.SearchWords.{back, word, length-word, depth-le, word-over, word-run, words-rise}
+use Rattle.shortest.specs.SearchComplete.{Reached, Beyond, reached}
 use Rattle.shortest.specs.ReadBack.{Chain, chain}
-use Rattle.shortest.specs.Graph.{at, succ, Hit, HitLoop}
-use Rattle.shortest.specs.State.{nodeOf, depthOf, view, State}
+use Rattle.shortest.specs.Graph.{at, Hit, HitLoop}
+use Rattle.shortest.specs.Packing.{depthOf, view}
+use Rattle.shortest.specs.State.{State}
 use Rattle.shortest.specs.Explored.{Explored, Searched}
 
 -- the length of a shortest loop of at most `bound` letters that is a hit, or 0 where there is none
@@ -35,11 +36,11 @@ pub record LoopWritten (D H : List ℕ) (L v : ℕ) (out written : List ℕ) (r 
   pub none : r ≡ 0 → (y : List ℕ) → HitLoop D H L v y → length out < length y
   pub found : 0 < r → FirstLoop D H L v out written r
 
-module _ {D H places : List ℕ} {L v bound n k : ℕ} (X : Searched D H places L v bound n k) where
-  abbrev E : Explored D H (X .marks) places L v bound n k
+module _ {D H places : List ℕ} {L v bound n k : ℕ} (X : Searched D H places L v (v / 256) bound n k) where
+  abbrev E : Explored D H (X .seen) places L v (v / 256) bound n k
   E = X .explored
 
-  abbrev S : State D (X .marks) places L v n (X .explored .here) 0
+  abbrev S : State D (X .seen) places L v n (X .explored .here) 0
   S = X .explored .state
 
   -- a loop that is a hit leads to the place of a hit, or past the search
@@ -58,7 +59,7 @@ module _ {D H places : List ℕ} {L v bound n k : ℕ} (X : Searched D H places 
         where
           low : Dec (R .place < k) → k ≤ R .place
           low (no d) = omega arith
-          low (yes d) = absurd (E .first .before (R .place) (R .late (s .some)) d (subst (Hit H v) (sym (R .there)) (s .hit)))
+          low (yes d) = absurd (E .first .before (R .place) (R .late (s .some)) d (subst (Hit H (v / 256)) (sym (R .there)) (s .hit)))
 
   -- ---- there is none
   pub no-loop : k ≡ n → (y : List ℕ) → HitLoop D H L v y → bound < length y
@@ -83,7 +84,7 @@ module _ {D H places : List ℕ} {L v bound n k : ℕ} (X : Searched D H places 
     loop-hit = record {
       over = word-over (S .search) k g;
       some = λ e. omega (arith, ap length e, loop-length, loop-some);
-      hit = subst (Hit H v) (sym (word-run (S .search) k g)) (E .first .found g);
+      hit = subst (Hit H (v / 256)) (sym (word-run (S .search) k g)) (E .first .found g);
     }
 
     pub loop-first : (y : List ℕ) → HitLoop D H L v y → NotLater loop y
@@ -136,6 +137,3 @@ module _ {D H places : List ℕ} {L v bound n k : ℕ} (X : Searched D H places 
 
   pub hit-place : (k ≡ n → ⊥) → k < n
   hit-place ne = omega (arith, E .first .high)
-
-  pub places-within : n ≤ length places
-  places-within = omega (arith, S .limit, S .places-size)

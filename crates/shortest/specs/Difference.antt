@@ -8,7 +8,8 @@ use lib.ListN.{getD}
 use Rattle.meaning.specs.Walk.{run}
 use Rattle.meaning.specs.Agreement.{Over}
 
--- An automaton has a table of destinations and a table of sets of marks. A set of marks is a number: bit i for the set i.
+-- An automaton has a table of destinations and a table of sets of marks, with an entry for each state and letter. A set is a number: bit i for
+-- the acceptance set i.
 abbrev pub entry : List ℕ → ℕ → ℕ → ℕ
 entry table q l = getD table (q * 16 + l) 0
 
@@ -17,9 +18,9 @@ abbrev pub met : List ℕ → List ℕ → ℕ → List ℕ → ℕ
 met next marks q [] = 0
 met next marks q (l ∷ w) = bitOr (entry marks q l) (met next marks (entry next q l) w)
 
--- The prefix x and the loop y, over L letters, show that two automata with the start states s and t differ: y, "read once, brings both automata back
--- to where it began", and the first accepts and the second does not, or the other way, a run that meets on and on just the sets that they meet
--- along y. H says so of two sets of marks: its entry is not 0.
+-- A lasso word of the prefix x and the loop y, over L letters, shows that two automata differ: from the states that x leads to, "the loop, read
+-- once, brings both automata back to where it began", and H is not 0 at the sets that the two meet along it. H has an entry for each two sets
+-- of marks: not 0 where one automaton accepts and the other does not.
 pub record Shows (next-A marks-A next-B marks-B H : List ℕ) (L s t : ℕ) (x y : List ℕ) : Type 0 where
   pub over-x : Over L x
   pub over-y : Over L y
@@ -32,8 +33,8 @@ pub record Shows (next-A marks-A next-B marks-B H : List ℕ) (L s t : ℕ) (x y
 abbrev pub Below16 : List ℕ → Type 0
 Below16 table = (q l : ℕ) → q < 16 → l < 16 → entry table q l < 16
 
--- states and sets of marks are numbers below 16
-pub record Tabled (next marks : List ℕ) (start : ℕ) : Type 0 where
+-- an automaton with states and sets of marks below 16
+pub record InRange (next marks : List ℕ) (start : ℕ) : Type 0 where
   pub next-lt : Below16 next
   pub marks-lt : Below16 marks
   pub start-lt : start < 16

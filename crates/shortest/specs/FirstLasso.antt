@@ -1,20 +1,21 @@
 -- The outer search and the choice of a place give the first of all words: a word x to a node, and a loop y there that is a hit.
 use mathlib.Core.Path.{_≡_, refl, sym, ap, _∙_, subst}
-use mathlib.Core.Logic.{_≢_, _⊎_, inl, inr}
-use mathlib.Core.List.{List, [], _++_}
-use Prim.Native.Nat.{ℕ, suc, _+_, _≤_, _<_}
+use mathlib.Core.Logic.{_⊎_, inl, inr}
+use mathlib.Core.List.{List, _++_}
+use Prim.Native.Nat.{ℕ, _+_, _≤_, _<_}
 use native.Mathlib.Decide.{decLt, ℕ-discrete}
 use native.Mathlib.Omega.{arith}
 use lib.ListN.{length, drop}
-use Rattle.meaning.specs.Walk.{run}
 use Rattle.shortest.specs.declared.Verdict.the-variants.{Same, Differ}
-use Rattle.shortest.specs.Order.{Smaller, Precedes, Within, Found, Answer}
+use Rattle.shortest.specs.Order.{Smaller, Precedes, Within, Answer}
 use Rattle.shortest.specs.WordOrder.{Earlier, NotLater, earlier-trans, not-later-length, earlier-smaller, smaller-append, smaller-front}
-use Rattle.shortest.specs.SearchWords.{back, word, length-word, word-over, word-run, words-rise, depths-rise, Reached, Beyond, reached}
+use Rattle.shortest.specs.SearchWords.{back, word, length-word, word-over, word-run, words-rise, depths-rise}
+use Rattle.shortest.specs.SearchComplete.{Reached, Beyond, reached}
 use Rattle.shortest.specs.ReadBack.{Chain, chain}
-use Rattle.shortest.specs.Graph.{at, succ, HitLoop, HitLasso}
-use Rattle.shortest.specs.State.{nodeOf, depthOf, view, Clear, State}
-use Rattle.shortest.specs.Explored.{Explored, Searched}
+use Rattle.shortest.specs.Graph.{at, HitLoop, HitLasso}
+use Rattle.shortest.specs.Packing.{nodeOf, depthOf, view}
+use Rattle.shortest.specs.State.{State}
+use Rattle.shortest.specs.Explored.{Searched}
 use Rattle.shortest.specs.ClosestLoop.{FirstLoop, LoopWritten}
 use Rattle.shortest.specs.Choice.{Choosing}
 
@@ -40,16 +41,16 @@ precedes-by x y u v total prefix letters = go (decLt (length x + length y) (leng
         let q : length y ≡ length v = omega arith in
         inr (sum, inr (p, by-letters p q (letters p q)))
 
-module _ {P D H N outer : List ℕ} {L root most bound n m b t : ℕ} (X : Searched P N outer L root most n m) (none : Clear N) (C : Choosing D H outer L bound (most + bound + 1) n n b t) where
-  abbrev S : State P (X .marks) outer L root n (X .explored .here) 0
+module _ {P D H outer : List ℕ} {L root most bound n m b t : ℕ} (X : Searched P H outer L root 256 most n m) (C : Choosing D H outer L bound (most + bound + 1) n n b t) where
+  abbrev S : State P (X .seen) outer L root n (X .explored .here) 0
   S = X .explored .state
 
-  -- no node is a hit, so the outer search has found all nodes within `most` letters
+  -- no node has the pair 256, so the outer search has found all nodes within `most` letters
   all-found : m ≡ n
   all-found = go (decLt m n)
     where
       go : Dec (m < n) → m ≡ n
-      go (yes h) = absurd (X .explored .first .found h .1 (none _))
+      go (yes h) = absurd (omega (arith, X .explored .first .found h .0))
       go (no h) = omega (arith, X .explored .first .high)
 
   outer-reached : (x : List ℕ) → length x ≤ most → Reached (S .search) x ⊎ Beyond (S .search) x → Reached (S .search) x

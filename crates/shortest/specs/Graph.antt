@@ -25,15 +25,15 @@ pub succ-lt : (D : List ℕ) → Nodes D → (c l : ℕ) → succ D c l < 65536
 unfolding succ
 succ-lt D s c l = or-lt 16 (at D (c / 256 * 16 + l)) (c % 256) (s (c / 256 * 16 + l)) (omega arith)
 
--- c has the pair of v, and marks at which H is not 0
+-- c has the pair p, and marks at which H is not 0
 abbrev pub Hit : List ℕ → ℕ → ℕ → Type 0
-Hit H v c = (c / 256 ≡ v / 256) × (at H (c % 256) ≢ 0)
+Hit H p c = (c / 256 ≡ p) × (at H (c % 256) ≢ 0)
 
--- a word, not empty, that leads from v to a hit
+-- a word, not empty, that leads from v to a hit with the pair of v
 pub record HitLoop (D H : List ℕ) (L v : ℕ) (y : List ℕ) : Type 0 where
   pub over : Over L y
   pub some : y ≢ []
-  pub hit : Hit H v (run (succ D) v y)
+  pub hit : Hit H (v / 256) (run (succ D) v y)
 
 -- a word from the root to a node by the table P, and a loop there by the table D
 pub record HitLasso (P D H : List ℕ) (L root : ℕ) (x y : List ℕ) : Type 0 where

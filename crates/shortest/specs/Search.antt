@@ -1,9 +1,9 @@
 -- Breadth-first search in a graph whose steps are named by letters below 16. The nodes that are found get the places 0, 1, 2, .. in the order in
 -- which they are found. An edge is a place and a letter, as one number: 16 times the place, and the letter; edges are followed in the order of
 -- their numbers. Place 0 has the root, which counts as not seen: it may be found again, by a word of one letter or more.
-use mathlib.Core.Path.{_≡_, refl, sym, ap, ap₂, _∙_, subst}
+use mathlib.Core.Path.{_≡_, sym, ap, ap₂, _∙_, subst}
 use mathlib.Core.Logic.{_≢_}
-use Prim.Native.Nat.{ℕ, zero, suc, _+_, _*_, _/_, _%_, _≤_, _<_}
+use Prim.Native.Nat.{ℕ, suc, _+_, _*_, _/_, _%_, _≤_, _<_}
 use native.Mathlib.Decide.{decLt, ℕ-discrete}
 use native.Mathlib.Omega.{arith}
 use Rattle.meaning.specs.Pigeonhole.{Twice, pigeonhole}
@@ -50,14 +50,20 @@ pub record Search (σ : ℕ → ℕ → ℕ) (L root : ℕ) (seen : ℕ → ℕ)
   pub order : (i j : ℕ) → 0 < i → i < j → j < n → a .edge i < a .edge j
   pub upto : (k : ℕ) → 0 < k → k < n → a .edge k < h * 16 + l
   pub flag : (c : ℕ) → seen c ≤ 1
-  pub marked : (k : ℕ) → 0 < k → k < n → seen (a .node k) ≡ 1
+  pub seen-node : (k : ℕ) → 0 < k → k < n → seen (a .node k) ≡ 1
   pub known : (c : ℕ) → seen c ≡ 1 → Placed a n c
   pub followed : (k m : ℕ) → m < L → k * 16 + m < h * 16 + l → Followed σ a n k m
 
+-- the same stands at the place k
+pub record SameAt (a b : Places) (k : ℕ) : Type 0 where
+  pub node : b .node k ≡ a .node k
+  pub edge : b .edge k ≡ a .edge k
+  pub depth : b .depth k ≡ a .depth k
+
 module _ (σ : ℕ → ℕ → ℕ) (L root : ℕ) (hL : L ≤ 16) where
   -- ---- the root alone
-  pub start : (seen : ℕ → ℕ) (a : Places) → a .node 0 ≡ root → a .depth 0 ≡ 0 → ((c : ℕ) → seen c ≡ 0) → Search σ L root seen a 1 0 0
-  start seen a r d none = record {
+  pub root-alone : (seen : ℕ → ℕ) (a : Places) → a .node 0 ≡ root → a .depth 0 ≡ 0 → ((c : ℕ) → seen c ≡ 0) → Search σ L root seen a 1 0 0
+  root-alone seen a r d none = record {
     some = omega arith;
     head = omega arith;
     root-node = r;
@@ -67,14 +73,14 @@ module _ (σ : ℕ → ℕ → ℕ) (L root : ℕ) (hL : L ≤ 16) where
     order = λ i j g k h. absurd (omega arith);
     upto = λ k g h. absurd (omega arith);
     flag = λ c. omega (arith, none c);
-    marked = λ k g h. absurd (omega arith);
+    seen-node = λ k g h. absurd (omega arith);
     known = λ c e. absurd (omega (arith, none c));
     followed = λ k m g h. absurd (omega arith);
   }
 
   -- ---- all the edges from h have been followed
-  pub next : {seen : ℕ → ℕ} {a : Places} {n h : ℕ} → Search σ L root seen a n h L → h < n → Search σ L root seen a n (suc h) 0
-  next S hn = record {
+  pub edges-followed : {seen : ℕ → ℕ} {a : Places} {n h : ℕ} → Search σ L root seen a n h L → h < n → Search σ L root seen a n (suc h) 0
+  edges-followed S hn = record {
     some = S .some;
     head = hn;
     root-node = S .root-node;
@@ -84,17 +90,12 @@ module _ (σ : ℕ → ℕ → ℕ) (L root : ℕ) (hL : L ≤ 16) where
     order = S .order;
     upto = λ k g m. omega (arith, S .upto k g m);
     flag = S .flag;
-    marked = S .marked;
+    seen-node = S .seen-node;
     known = S .known;
     followed = λ k m g j. S .followed k m g (omega arith);
   }
 
   -- ---- what stands past the places that are taken does not matter
-  pub record SameAt (a b : Places) (k : ℕ) : Type 0 where
-    pub node : b .node k ≡ a .node k
-    pub edge : b .edge k ≡ a .edge k
-    pub depth : b .depth k ≡ a .depth k
-
   module _ {seen : ℕ → ℕ} {a b : Places} {n h l : ℕ} (S : Search σ L root seen a n h l) (hn : h < n) (hl : l < L) (same : (k : ℕ) → k < n → SameAt a b k) where
     child-same : (k : ℕ) → 0 < k → k < n → Child σ L b k
     child-same k g m =
@@ -121,8 +122,8 @@ module _ (σ : ℕ → ℕ → ℕ) (L root : ℕ) (hL : L ≤ 16) where
           soon = rw (same (P .place) (P .within) .edge) (F .soon);
         }
 
-    pub kept : Search σ L root seen b n h l
-    kept = record {
+    pub search-kept : Search σ L root seen b n h l
+    search-kept = record {
       some = S .some;
       head = S .head;
       root-node = same 0 (S .some) .node ∙ S .root-node;
@@ -132,7 +133,7 @@ module _ (σ : ℕ → ℕ → ℕ) (L root : ℕ) (hL : L ≤ 16) where
       order = λ i j g k m. rw (same i (omega arith) .edge, same j m .edge) (S .order i j g k m);
       upto = λ k g m. rw (same k m .edge) (S .upto k g m);
       flag = S .flag;
-      marked = λ k g m. ap seen (same k m .node) ∙ S .marked k g m;
+      seen-node = λ k g m. ap seen (same k m .node) ∙ S .seen-node k g m;
       known = λ c e. placed-same (S .known c e);
       followed = λ k m g j. followed-same k m (omega arith) (S .followed k m g j);
     }
@@ -150,8 +151,8 @@ module _ (σ : ℕ → ℕ → ℕ) (L root : ℕ) (hL : L ≤ 16) where
             subst (λ i. Q i m) ek (subst (Q h) em now)
 
     -- ---- the edge leads to a node that has been seen
-    pub again : seen (σ (a .node h) l) ≡ 1 → Search σ L root seen a n h (suc l)
-    again e = record {
+    pub edge-to-old : seen (σ (a .node h) l) ≡ 1 → Search σ L root seen a n h (suc l)
+    edge-to-old e = record {
       some = S .some;
       head = S .head;
       root-node = S .root-node;
@@ -161,7 +162,7 @@ module _ (σ : ℕ → ℕ → ℕ) (L root : ℕ) (hL : L ≤ 16) where
       order = S .order;
       upto = λ k g m. omega (arith, S .upto k g m);
       flag = S .flag;
-      marked = S .marked;
+      seen-node = S .seen-node;
       known = S .known;
       followed = both (Followed σ a n) this (λ k m g j. S .followed k m g j);
     }
@@ -172,8 +173,8 @@ module _ (σ : ℕ → ℕ → ℕ) (L root : ℕ) (hL : L ≤ 16) where
             record { to = P; soon = omega (arith, S .upto (P .place) (P .late) (P .within)) }
 
     -- ---- it leads to a new node, which stands at the place n
-    module _ {marks : ℕ → ℕ} (new : seen (σ (a .node h) l) ≡ 0) (at-node : a .node n ≡ σ (a .node h) l) (at-edge : a .edge n ≡ h * 16 + l) (at-depth : a .depth n ≡ suc (a .depth h))
-        (mark : marks (σ (a .node h) l) ≡ 1) (rest : (c : ℕ) → c ≢ σ (a .node h) l → marks c ≡ seen c) where
+    module _ {after : ℕ → ℕ} (new : seen (σ (a .node h) l) ≡ 0) (at-node : a .node n ≡ σ (a .node h) l) (at-edge : a .edge n ≡ h * 16 + l) (at-depth : a .depth n ≡ suc (a .depth h))
+        (now : after (σ (a .node h) l) ≡ 1) (rest : (c : ℕ) → c ≢ σ (a .node h) l → after c ≡ seen c) where
       child-new : Child σ L a n
       child-new =
           let up : parent a n ≡ h = omega (arith, at-edge) in
@@ -186,7 +187,7 @@ module _ (σ : ℕ → ℕ → ℕ) (L root : ℕ) (hL : L ≤ 16) where
           }
 
       old-node : (k : ℕ) → 0 < k → k < n → a .node k ≢ σ (a .node h) l
-      old-node k g m e = omega (arith, S .marked k g m, ap seen e)
+      old-node k g m e = omega (arith, S .seen-node k g m, ap seen e)
 
       abbrev placed-more : {c : ℕ} → Placed a n c → Placed a (suc n) c
       placed-more P = record { place = P .place; late = P .late; within = omega (arith, P .within); there = P .there }
@@ -202,8 +203,8 @@ module _ (σ : ℕ → ℕ → ℕ) (L root : ℕ) (hL : L ≤ 16) where
           go (yes e) = subst Q e here
           go (no e) = old k (omega arith)
 
-      pub found : Search σ L root marks a (suc n) h (suc l)
-      found = record {
+      pub edge-to-new : Search σ L root after a (suc n) h (suc l)
+      edge-to-new = record {
         some = omega arith;
         head = omega (arith, S .head);
         root-node = S .root-node;
@@ -213,16 +214,16 @@ module _ (σ : ℕ → ℕ → ℕ) (L root : ℕ) (hL : L ≤ 16) where
         order = λ i j g k m. below (λ p. i < p → a .edge i < a .edge p) (λ w. omega (arith, S .upto i g w, at-edge)) (λ p w z. S .order i p g z w) j m k;
         upto = λ k g m. below (λ i. 0 < i → a .edge i < h * 16 + suc l) (λ z. omega (arith, at-edge)) (λ i w z. omega (arith, S .upto i z w)) k m g;
         flag = λ c. flag-at c (ℕ-discrete c (σ (a .node h) l));
-        marked = λ k g m. below (λ i. 0 < i → marks (a .node i) ≡ 1) (λ z. ap marks at-node ∙ mark) (λ i w z. rest (a .node i) (old-node i z w) ∙ S .marked i z w) k m g;
+        seen-node = λ k g m. below (λ i. 0 < i → after (a .node i) ≡ 1) (λ z. ap after at-node ∙ now) (λ i w z. rest (a .node i) (old-node i z w) ∙ S .seen-node i z w) k m g;
         known = λ c e. known-at c e (ℕ-discrete c (σ (a .node h) l));
         followed = both (Followed σ a (suc n)) (record { to = placed-new; soon = omega (arith, at-edge) }) (λ k m g j. more k m (S .followed k m g j));
       }
         where
-          flag-at : (c : ℕ) → Dec (c ≡ σ (a .node h) l) → marks c ≤ 1
-          flag-at c (yes e) = omega (arith, ap marks e, mark)
+          flag-at : (c : ℕ) → Dec (c ≡ σ (a .node h) l) → after c ≤ 1
+          flag-at c (yes e) = omega (arith, ap after e, now)
           flag-at c (no e) = omega (arith, rest c e, S .flag c)
 
-          known-at : (c : ℕ) → marks c ≡ 1 → Dec (c ≡ σ (a .node h) l) → Placed a (suc n) c
+          known-at : (c : ℕ) → after c ≡ 1 → Dec (c ≡ σ (a .node h) l) → Placed a (suc n) c
           known-at c g (yes e) = subst (Placed a (suc n)) (sym e) placed-new
           known-at c g (no e) = placed-more (S .known c (sym (rest c e) ∙ g))
 
@@ -230,8 +231,8 @@ module _ (σ : ℕ → ℕ → ℕ) (L root : ℕ) (hL : L ≤ 16) where
           more k m F = record { to = placed-more (F .to); soon = F .soon }
 
   -- ---- among N nodes there is room: a node that has not been seen leaves one of N + 1 places free
-  pub room : {seen : ℕ → ℕ} {a : Places} {n h l : ℕ} (N : ℕ) → ((c m : ℕ) → σ c m < N) → Search σ L root seen a n h l → (c : ℕ) → c < N → seen c ≡ 0 → n ≤ N
-  room {seen} {a} {n} N small S c hc new = go (decLt N n)
+  pub place-free : {seen : ℕ → ℕ} {a : Places} {n h l : ℕ} (N : ℕ) → ((c m : ℕ) → σ c m < N) → Search σ L root seen a n h l → (c : ℕ) → c < N → seen c ≡ 0 → n ≤ N
+  place-free {seen} {a} {n} N small S c hc new = go (decLt N n)
     where
       -- the nodes at the places from 1 on, and c after them
       pick : (i : ℕ) → Dec (i ≡ N) → ℕ
@@ -251,7 +252,7 @@ module _ (σ : ℕ → ℕ → ℕ) (L root : ℕ) (hL : L ≤ 16) where
 
           apart : (i j : ℕ) → i < j → j ≤ N → (d : Dec (i ≡ N)) (e : Dec (j ≡ N)) → pick i d ≡ pick j e → ⊥
           apart i j m k (yes d) e p = omega arith
-          apart i j m k (no d) (yes e) p = omega (arith, S .marked (suc i) (omega arith) (omega arith), ap seen p)
+          apart i j m k (no d) (yes e) p = omega (arith, S .seen-node (suc i) (omega arith) (omega arith), ap seen p)
           apart i j m k (no d) (no e) p = S .once (suc i) (suc j) (omega arith) (omega arith) (omega arith) p
 
           twice : Twice f N → ⊥

@@ -1,10 +1,9 @@
 // Of all places of the outer search, the one at which a loop makes the first word.
 use crate::closest;
 use crate::places;
-ghost use mathlib.Core.Path.{_≡_};
 ghost use Prim.Native.Nat.{_^_, _<_, _≤_};
 ghost use lib.ListN.{length};
-ghost use Rattle.shortest.specs.State.{Clear};
+ghost use Rattle.shortest.specs.Workspace.{Ready};
 ghost use Rattle.shortest.specs.Choice.{Choosing, Room, Better};
 
 // A place, and the length of the word that leads there and of the shortest loop there, together.
@@ -25,10 +24,9 @@ pub fn choose(
     bound: usize,
     none: usize,
 ) -> Choice
-    requires { ⌜ (length (now table) ≡ 4096) × (length (now hits) ≡ 256) × (letters ≤ 16) × (length (now seen) ≡ 65536) × (length (now inner) ≡ 65538) × (count ≤ length (now outer)) ⌝ }
-    requires { ⌜ Clear (now seen) ⌝ }
+    requires { ⌜ Ready (now table) (now hits) (now seen) (now inner) letters × (count ≤ length (now outer)) ⌝ }
     ensures { λ r. ⌜ Choosing (now (table .entry)) (now (hits .entry)) (now (outer .entry)) letters bound none count count (r .place) (r .total) ⌝ }
-    ensures { λ r. ⌜ Clear (now (seen .exit)) ⌝ }
+    ensures { λ r. ⌜ Ready (now (table .entry)) (now (hits .entry)) (now (seen .exit)) (now (inner .exit)) letters ⌝ }
 {
     let mut best = Choice {
         place: count,

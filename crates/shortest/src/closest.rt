@@ -2,13 +2,11 @@
 use crate::places;
 use crate::search;
 use crate::word;
-ghost use mathlib.Core.Path.{_≡_};
-ghost use Prim.Native.Nat.{_^_, _<_, _≤_};
-ghost use lib.ListN.{length};
-ghost use Rattle.shortest.specs.State.{Clear};
+ghost use Prim.Native.Nat.{_^_, _<_};
+ghost use Rattle.shortest.specs.Workspace.{Ready};
 ghost use Rattle.shortest.specs.ClosestLoop.{LoopLength, LoopWritten};
 
-// Its length, if it has at most `bound` letters; otherwise 0.
+// The length of the loop, if it has at most `bound` letters; otherwise 0.
 pub fn loop_length(
     table: &[u16],
     hits: &[u8],
@@ -18,12 +16,11 @@ pub fn loop_length(
     node: u16,
     bound: usize,
 ) -> usize
-    requires { ⌜ (length (now table) ≡ 4096) × (length (now hits) ≡ 256) × (letters ≤ 16) × (length (now seen) ≡ 65536) × (length (now places) ≡ 65538) ⌝ }
-    requires { ⌜ Clear (now seen) ⌝ }
+    requires { ⌜ Ready (now table) (now hits) (now seen) (now places) letters ⌝ }
     ensures { λ r. ⌜ LoopLength (now (table .entry)) (now (hits .entry)) letters node bound r × (r < 2 ^ 32) ⌝ }
-    ensures { λ r. ⌜ Clear (now (seen .exit)) ⌝ }
+    ensures { λ r. ⌜ Ready (now (table .entry)) (now (hits .entry)) (now (seen .exit)) (now (places .exit)) letters ⌝ }
 {
-    let stop = search::search(table, hits, seen, places, letters, node, bound);
+    let stop = search::search(table, hits, seen, places, letters, node, node / 256, bound);
     let hit = stop.hit;
     if hit == stop.count {
         return 0;
@@ -31,7 +28,7 @@ pub fn loop_length(
     places::depth(places[hit])
 }
 
-// The same, with the loop itself in the front of `out`, if it fits there.
+// The same, and the loop itself in the front of `out`, if it fits there.
 pub fn write_loop(
     table: &[u16],
     hits: &[u8],
@@ -41,11 +38,19 @@ pub fn write_loop(
     node: u16,
     out: &mut [u8],
 ) -> usize
-    requires { ⌜ (length (now table) ≡ 4096) × (length (now hits) ≡ 256) × (letters ≤ 16) × (length (now seen) ≡ 65536) × (length (now places) ≡ 65538) ⌝ }
-    requires { ⌜ Clear (now seen) ⌝ }
+    requires { ⌜ Ready (now table) (now hits) (now seen) (now places) letters ⌝ }
     ensures { λ r. ⌜ LoopWritten (now (table .entry)) (now (hits .entry)) letters node (now (out .entry)) (now (out .exit)) r ⌝ }
 {
-    let stop = search::search(table, hits, seen, places, letters, node, out.len());
+    let stop = search::search(
+        table,
+        hits,
+        seen,
+        places,
+        letters,
+        node,
+        node / 256,
+        out.len(),
+    );
     let hit = stop.hit;
     if hit == stop.count {
         return 0;

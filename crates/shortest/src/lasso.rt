@@ -6,18 +6,16 @@ use crate::places;
 use crate::search;
 use crate::word;
 ghost use mathlib.Core.Path.{_≡_};
-ghost use Prim.Native.Nat.{_≤_};
 ghost use lib.ListN.{length};
 ghost use Rattle.shortest.specs.Order.{Within, Answer};
 ghost use Rattle.shortest.specs.Graph.{HitLasso};
-ghost use Rattle.shortest.specs.State.{Clear};
+ghost use Rattle.shortest.specs.Workspace.{Ready};
 
 // The word to the node goes by the table `plain`, and the loop by `table`. It is written into `prefix` and `cycle`, and only words
-// that fit them are looked for. `none` is a table without hits, for the search of all nodes; `seen`, `outer` and `inner` are working space.
+// that fit them are looked for. `seen`, `outer` and `inner` are working space.
 pub fn first_lasso(
     plain: &[u16],
     table: &[u16],
-    none: &[u8],
     hits: &[u8],
     seen: &mut [u8],
     outer: &mut [u64],
@@ -27,14 +25,13 @@ pub fn first_lasso(
     prefix: &mut [u8],
     cycle: &mut [u8],
 ) -> Verdict
-    requires { ⌜ (length (now plain) ≡ 4096) × (length (now table) ≡ 4096) × (length (now none) ≡ 256) × (length (now hits) ≡ 256) × (letters ≤ 16) ⌝ }
-    requires { ⌜ (length (now seen) ≡ 65536) × (length (now outer) ≡ 65538) × (length (now inner) ≡ 65538) × Clear (now none) × Clear (now seen) ⌝ }
+    requires { ⌜ Ready (now plain) (now hits) (now seen) (now outer) letters × (length (now table) ≡ 4096) × (length (now inner) ≡ 65538) ⌝ }
     ensures { λ r. ⌜ Answer (Within (length (now (prefix .entry))) (length (now (cycle .entry))) (HitLasso (now (plain .entry)) (now (table .entry)) (now (hits .entry)) letters root))
         (now (prefix .entry)) (now (prefix .exit)) (now (cycle .entry)) (now (cycle .exit)) r ⌝ }
 {
     let most = prefix.len();
     let bound = cycle.len();
-    let reached = search::search(plain, none, seen, outer, letters, root, most);
+    let reached = search::search(plain, hits, seen, outer, letters, root, 256, most);
     let count = reached.count;
     let best = choice::choose(
         table,

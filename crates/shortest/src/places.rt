@@ -1,29 +1,33 @@
 // A place of a search as one number: its depth, the edge by which it was found, and its node.
 ghost use mathlib.Core.Path.{_≡_};
 ghost use Prim.Native.Nat.{_^_, _<_};
-ghost use Rattle.shortest.specs.State.{pack, nodeOf, edgeOf, depthOf};
+ghost use Rattle.shortest.specs.Packing.{pack, nodeOf, edgeOf, depthOf};
+
+const NODES: u64 = 65536;
+
+const EDGES: u64 = 1048576;
 
 pub fn place(node: u16, edge: usize, depth: usize) -> u64
     requires { ⌜ (edge < 2 ^ 32) × (depth < 2 ^ 20) ⌝ }
     ensures { λ r. ⌜ r ≡ pack node edge depth ⌝ }
 {
-    (depth as u64 * 1048576 + edge as u64) * 65536 + node as u64
+    (depth as u64 * EDGES + edge as u64) * NODES + node as u64
 }
 
 pub fn node(place: u64) -> u16
     ensures { λ r. ⌜ r ≡ nodeOf place ⌝ }
 {
-    (place % 65536) as u16
+    (place % NODES) as u16
 }
 
 pub fn edge(place: u64) -> usize
     ensures { λ r. ⌜ r ≡ edgeOf place ⌝ }
 {
-    (place / 65536 % 1048576) as usize
+    (place / NODES % EDGES) as usize
 }
 
 pub fn depth(place: u64) -> usize
     ensures { λ r. ⌜ r ≡ depthOf place ⌝ }
 {
-    (place / 68719476736) as usize
+    (place / NODES / EDGES) as usize
 }

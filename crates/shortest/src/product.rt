@@ -4,7 +4,7 @@ ghost use mathlib.Core.Path.{_≡_};
 ghost use Prim.Native.Nat.{_<_};
 ghost use lib.ListN.{length};
 ghost use Rattle.shortest.specs.Difference.{Below16};
-ghost use Rattle.shortest.specs.Product.{pairAt, Tables};
+ghost use Rattle.shortest.specs.ProductTables.{pairAt, Tables};
 
 // The steps of the product, without marks into `plain`, and with them into `table`.
 pub fn fill(

@@ -6,8 +6,12 @@ ghost use mathlib.Core.Bool.{true};
 ghost use Prim.Native.Nat.{ℕ, _+_, _-_, _*_, _^_, _<_, _≤_};
 ghost use lib.ListN.{length, set};
 ghost use Rattle.shortest.specs.Graph.{at, succ, Hit};
-ghost use Rattle.shortest.specs.State.{pack, nodeOf, Clear, Marked, State};
-ghost use Rattle.shortest.specs.Explored.{First, Explored, Searched};
+ghost use Rattle.shortest.specs.Packing.{pack, nodeOf};
+ghost use Rattle.shortest.specs.Seen.{Clear, SeenAt};
+ghost use Rattle.shortest.specs.Workspace.{Ready};
+ghost use Rattle.shortest.specs.State.{State};
+ghost use Rattle.shortest.specs.FirstHit.{First};
+ghost use Rattle.shortest.specs.Explored.{Explored, Searched};
 
 // Where a search stops: the first place of a hit, or `count` where there is none, and the number of places.
 pub struct Stop {
@@ -15,7 +19,8 @@ pub struct Stop {
     pub count: usize,
 }
 
-// The search from a node by words of at most `bound` letters. All nodes are unmarked before and after.
+// The search from the root by words of at most `bound` letters, which stops at the first hit with the given pair. No node has the pair
+// 256: with it all nodes are found.
 pub fn search(
     table: &[u16],
     hits: &[u8],
@@ -23,16 +28,17 @@ pub fn search(
     places: &mut [u64],
     letters: usize,
     root: u16,
+    pair: u16,
     bound: usize,
 ) -> Stop
-    requires { ⌜ (length (now table) ≡ 4096) × (length (now hits) ≡ 256) × (letters ≤ 16) × (length (now seen) ≡ 65536) × (length (now places) ≡ 65538) ⌝ }
-    requires { ⌜ Clear (now seen) ⌝ }
-    ensures { λ r. ⌜ Searched (now (table .entry)) (now (hits .entry)) (now (places .exit)) letters root bound (r .count) (r .hit) × Clear (now (seen .exit)) ⌝ }
+    requires { ⌜ Ready (now table) (now hits) (now seen) (now places) letters ⌝ }
+    ensures { λ r. ⌜ Searched (now (table .entry)) (now (hits .entry)) (now (places .exit)) letters root pair bound (r .count) (r .hit) ⌝ }
+    ensures { λ r. ⌜ Ready (now (table .entry)) (now (hits .entry)) (now (seen .exit)) (now (places .exit)) letters ⌝ }
 {
     places[0] = root as u64;
-    let stop = explore(table, hits, seen, places, letters, bound);
+    let stop = explore(table, hits, seen, places, letters, pair, bound);
     let count = stop.count;
-    unmark(seen, places, count);
+    forget(seen, places, count);
     stop
 }
 
@@ -43,13 +49,13 @@ pub fn explore(
     seen: &mut [u8],
     places: &mut [u64],
     letters: usize,
+    pair: u16,
     bound: usize,
 ) -> Stop
     requires { ⌜ State (now table) (now seen) (now places) letters (nodeOf (at (now places) 0)) 1 0 0 ⌝ }
     requires { ⌜ length (now hits) ≡ 256 ⌝ }
-    ensures { λ r. ⌜ Explored (now (table .entry)) (now (hits .entry)) (now (seen .exit)) (now (places .exit)) letters (nodeOf (at (now (places .entry)) 0)) bound (r .count) (r .hit) ⌝ }
+    ensures { λ r. ⌜ Explored (now (table .entry)) (now (hits .entry)) (now (seen .exit)) (now (places .exit)) letters (nodeOf (at (now (places .entry)) 0)) pair bound (r .count) (r .hit) ⌝ }
 {
-    let root = places::node(places[0]);
     let mut n = 1;
     let mut here = 0;
     while here < n {
@@ -57,7 +63,7 @@ pub fn explore(
             return Stop { hit: n, count: n };
         }
         let count = expand(table, seen, places, letters, here, n);
-        let hit = first_hit(places, hits, root, n, count);
+        let hit = first_hit(places, hits, pair, n, count);
         if hit < count {
             return Stop { hit, count };
         }
@@ -124,13 +130,13 @@ pub fn enter(
 }
 
 // The first place of a hit from `start` on, or `end` where there is none before it.
-pub fn first_hit(places: &[u64], hits: &[u8], root: u16, start: usize, end: usize) -> usize
+pub fn first_hit(places: &[u64], hits: &[u8], pair: u16, start: usize, end: usize) -> usize
     requires { ⌜ (start ≤ end) × (end ≤ length (now places)) × (length (now hits) ≡ 256) ⌝ }
-    ensures { λ r. ⌜ First (now (places .entry)) (now (hits .entry)) root start end r ⌝ }
+    ensures { λ r. ⌜ First (now (places .entry)) (now (hits .entry)) pair start end r ⌝ }
 {
     let mut k = start;
     while k < end {
-        if is_hit(hits, root, places::node(places[k])) {
+        if is_hit(hits, pair, places::node(places[k])) {
             return k;
         }
         k += 1;
@@ -138,20 +144,20 @@ pub fn first_hit(places: &[u64], hits: &[u8], root: u16, start: usize, end: usiz
     end
 }
 
-// Whether a node has the pair of the root, and marks at which the table of hits is not 0.
-pub fn is_hit(hits: &[u8], root: u16, node: u16) -> bool
+// Whether a node has the pair, and marks at which the table of hits is not 0.
+pub fn is_hit(hits: &[u8], pair: u16, node: u16) -> bool
     requires { ⌜ length (now hits) ≡ 256 ⌝ }
-    ensures { λ r. ⌜ (r ≡ true) ↔ Hit (now (hits .entry)) root node ⌝ }
+    ensures { λ r. ⌜ (r ≡ true) ↔ Hit (now (hits .entry)) pair node ⌝ }
 {
-    if node / 256 != root / 256 {
+    if node / 256 != pair {
         return false;
     }
     hits[(node % 256) as usize] != 0
 }
 
-// The nodes at the places from 1 on are unmarked.
-pub fn unmark(seen: &mut [u8], places: &[u64], count: usize)
-    requires { ⌜ Marked (now seen) (now places) 1 count × (count ≤ length (now places)) ⌝ }
+// The nodes at the places from 1 on count as not seen again.
+pub fn forget(seen: &mut [u8], places: &[u64], count: usize)
+    requires { ⌜ SeenAt (now seen) (now places) 1 count × (count ≤ length (now places)) ⌝ }
     ensures { λ _. ⌜ Clear (now (seen .exit)) ⌝ }
 {
     let mut k = 1;

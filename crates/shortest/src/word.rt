@@ -5,8 +5,8 @@ ghost use mathlib.Core.List.{_++_};
 ghost use Prim.Native.Nat.{_≤_};
 ghost use lib.ListN.{length, drop};
 ghost use Rattle.shortest.specs.SearchWords.{back};
-ghost use Rattle.shortest.specs.State.{view};
 ghost use Rattle.shortest.specs.ReadBack.{Chain};
+ghost use Rattle.shortest.specs.Packing.{view};
 
 // The last `depth` letters of the way to the place, into the front of `out`.
 pub fn write_word(places: &[u64], place: usize, depth: usize, out: &mut [u8])

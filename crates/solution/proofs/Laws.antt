@@ -1,5 +1,5 @@
--- Laws of the bytes, of the tags of places and verdicts, and of the steps, over plain values.
-use mathlib.Core.Path.{_≡_, refl, sym, subst}
+-- Laws of the bytes, of the steps and of literals, over plain values.
+use mathlib.Core.Path.{_≡_, sym, subst}
 use mathlib.Core.Bool.{Bool, true, false, cond}
 use mathlib.Core.List.{List}
 use Prim.Native.Nat.{ℕ, _<_, _≤_, _+_, _-_}
@@ -12,7 +12,6 @@ use lib.Seq.{drop-cons, drop-length}
 use Rattle.solution.specs.declared.Reader.{Reader}
 use Rattle.solution.specs.declared.scan.Scan.{Scan}
 use Rattle.solution.specs.declared.scan.Place.{Place}
-use Rattle.solution.proofs.Signs.{natAbs-neg}
 use Rattle.solution.specs.SolverText.{blank, digit, digit19, unstated, satisfiable, literalOf}
 use Rattle.solution.specs.Machine.{bad, done, unfitting, judge, settle, markOf, at-rest, byPlace, atLimit, step, run, endAt, tokenByte, firstByte}
 
@@ -110,10 +109,6 @@ literal-neg g v z e q = subst (λ b. z ≡ literalOf b v) (sym e) q
 
 pub literal-pos : (g : Bool) (v : ℕ) (z : ℤ) → g ≡ false → z ≡ pos v → z ≡ literalOf g v
 literal-pos g v z e q = subst (λ b. z ≡ literalOf b v) (sym e) q
-
-pub literal-abs : (g : Bool) (v : ℕ) → natAbs (literalOf g v) ≡ v
-literal-abs false v = refl
-literal-abs true v = natAbs-neg (pos v)
 
 module _ (last kept : ℕ) (l : ℤ) (s next : Scan) (t : List ℕ) (v : ℕ) (e : v ≡ natAbs l) where
   pub settle-past : last < v → at-rest (unfitting s) t ≡ settle last kept l s next t

@@ -1,9 +1,9 @@
 -- Signed 32-bit literals: the negative of a number below 2 ^ 31 fits, and is read back.
-use mathlib.Core.Path.{_≡_, refl}
+use mathlib.Core.Path.{_≡_}
 use mathlib.Core.Bool.{Bool, true, false}
 use Prim.Native.Nat.{ℕ, zero, suc, _<_, _^_}
 use native.Mathlib.Omega.{arith}
-use borrow.Author.Tests.{ltb-true, le-ltb}
+use borrow.Author.Tests.{ltb-true}
 use lib.Dec.{T, lit<}
 use lib.IntN.{ℤ, pos, negsuc, negℤ, natAbs, _-ℤ_, +ℤ-idl}
 use lib.Signed.{mag, ltZ, nonNeg}
@@ -17,11 +17,6 @@ mag-neg (negsuc n) h = h
 
 pub neg-fits : (l : ℤ) → natAbs l < 2 ^ 31 → SFits w32 (pos 0 -ℤ l)
 neg-fits l h = rw (+ℤ-idl (negℤ l)) (record { sfits = mag-neg l h })
-
-pub natAbs-neg : (l : ℤ) → natAbs (negℤ l) ≡ natAbs l
-natAbs-neg (pos zero) = refl
-natAbs-neg (pos (suc n)) = refl
-natAbs-neg (negsuc n) = refl
 
 -- below zero, the negative is not
 pub below : (l : ℤ) → ltZ l (pos 0) ≡ true → T (nonNeg (negℤ l))

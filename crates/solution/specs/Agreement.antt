@@ -3,11 +3,11 @@ use mathlib.Core.Path.{_≡_, refl, sym, ap, subst, _∙_}
 use mathlib.Core.Bool.{Bool, true, false, not}
 use mathlib.Core.Logic.{_⊎_, inl, inr, ⊎-elim}
 use mathlib.Core.List.{List, [], _∷_}
-use Prim.Native.Nat.{ℕ, zero, suc, _+_, _-_, _*_, _≤_, _<_}
+use Prim.Native.Nat.{ℕ, _+_, _-_, _*_, _≤_, _<_}
 use native.Mathlib.Omega.{arith}
 use borrow.Author.Tests.{lt-ltb, le-leb, lt-leb, eqb-true, leb-false, ltb-true, ltb-false}
 use lib.Dec.{ltb, leb, eqb}
-use lib.IntN.{ℤ, pos, negℤ, natAbs}
+use lib.IntN.{ℤ, natAbs}
 use Rattle.automaton.specs.declared.refusal.Refusal.{Refusal}
 use Rattle.automaton.specs.declared.refusal.Refusal.the-variants.{SolverForm, Literal}
 use Rattle.solution.specs.declared.Reader.{Reader}
@@ -19,38 +19,39 @@ use Rattle.solution.specs.declared.scan.Verdict.the-variants.{Unstated, 
 use Rattle.solution.specs.SolverText.{Seen, Outcome, gives, refused, form, unfit, followed, lf, blank, digit, digit19, split, past, nothing, skipped, word, unstated, satisfiable, with-verdict, spelled, verdicts, blanks, verdictLine, literalOf, mentioned, settled, digits, number, token, tokens, line, judged, lines, fenced, outcome}
 use Rattle.solution.specs.Machine.{scan, at-rest, unfitting, atStart, inComment, afterS, beforeWord, spelt, follows, turns, nextLetter, wordDone, inWord, afterWord, afterToken, firstByte, tokenByte, beforeToken, afterMinus, grow, settle, ending, inDigits, byPlace, refusedAt, atLimit, step, run, judge, judgeWord, endAt, end, fresh}
 use Rattle.solution.specs.Cases.{by}
+use Rattle.solution.specs.Literals.{abs-literal}
 use Rattle.solution.specs.Spelling.{left, complete-left, spelled-left, follows-none, turns-none}
 use Rattle.solution.specs.Table.{table, table-new, table-other, table-free, table-fresh}
 
 -- ---- what a reader holds, once the text has ended
 
-pub data Held : Type 0 where
-  holds : Verdict → List ℕ → Held
-  fails : Refusal → Held
-  unended : Held
+pub data Result : Type 0 where
+  result : Verdict → List ℕ → Result
+  failure : Refusal → Result
+  unended : Result
 
-abbrev pub heldAt : Place → Scan → List ℕ → Held
-heldAt Start s t = unended
-heldAt Comment s t = unended
-heldAt AfterS s t = unended
-heldAt BeforeWord s t = unended
-heldAt Word s t = unended
-heldAt AfterWord s t = unended
-heldAt AfterToken s t = unended
-heldAt BeforeToken s t = unended
-heldAt AfterMinus s t = unended
-heldAt Digits s t = unended
-heldAt Ended s t = holds (s .verdict) t
-heldAt BadForm s t = fails (SolverForm (s .at))
-heldAt BadLiteral s t = fails (Literal (s .at))
+abbrev pub resultAt : Place → Scan → List ℕ → Result
+resultAt Start s t = unended
+resultAt Comment s t = unended
+resultAt AfterS s t = unended
+resultAt BeforeWord s t = unended
+resultAt Word s t = unended
+resultAt AfterWord s t = unended
+resultAt AfterToken s t = unended
+resultAt BeforeToken s t = unended
+resultAt AfterMinus s t = unended
+resultAt Digits s t = unended
+resultAt Ended s t = result (s .verdict) t
+resultAt BadForm s t = failure (SolverForm (s .at))
+resultAt BadLiteral s t = failure (Literal (s .at))
 
-abbrev pub held : Reader → Held
-held r = heldAt (r .scan .place) (r .scan) (r .named)
+abbrev pub resultOf : Reader → Result
+resultOf r = resultAt (r .scan .place) (r .scan) (r .named)
 
 -- what it should hold by the definition
-abbrev pub due : ℕ → Outcome → Held
-due kept (gives s) = holds (s .verdict) (table kept (s .literals))
-due kept (refused x) = fails x
+abbrev pub expected : ℕ → Outcome → Result
+expected kept (gives s) = result (s .verdict) (table kept (s .literals))
+expected kept (refused x) = failure x
 
 -- ---- small laws of the definition
 
@@ -97,14 +98,6 @@ alike-grow v w d (inl e) =
     by (leb w 200000000) (λ h. rw h (inl (ap (λ x. x * 10 + d) e))) (λ h. let k : 200000000 < w = leb-false w 200000000 h in rw h (inr (omega arith, k)))
 alike-grow v w d (inr e) = let k : 200000000 < w = e .1 in let j : 200000000 < v = e .0 in rw (lt-leb w 200000000 k) (inr (omega arith, k))
 
-abs-literal : (g : Bool) (v : ℕ) → natAbs (literalOf g v) ≡ v
-abs-literal false v = refl
-abs-literal true v = abs-neg v
-  where
-    abs-neg : (v : ℕ) → natAbs (negℤ (pos v)) ≡ v
-    abs-neg zero = refl
-    abs-neg (suc v) = refl
-
 module _ (last kept : ℕ) where
   nothing-tokens : (o : ℕ) (s : Seen) (u : List ℕ) (ks : List (List ℕ))
       → nothing o u (tokens last kept o s ks) ≡ followed (nothing o u (gives s)) (λ r. tokens last kept (past o u) r ks)
@@ -138,16 +131,16 @@ module _ (last kept : ℕ) where
   rest BadLiteral a v n l c f g x ls q = unfit a
 
   -- what the reader holds at the end of the text
-  unfoldable pub finally : Reader → Held
-  finally r = held (end last kept r)
+  unfoldable pub finalResult : Reader → Result
+  finalResult r = resultOf (end last kept r)
 
   module _ (small : last ≤ 200000000) (fits : kept ≤ 5120) where
     -- ---- a literal ends
 
-    settle-literal : (F : Reader → Held) (K : Seen → Outcome) (l : ℤ) (s next : Scan) (ls : List ℤ)
-        → F (at-rest (unfitting s) (table kept ls)) ≡ fails (Literal (s .from))
-        → ((us : List ℤ) → F (at-rest next (table kept us)) ≡ due kept (K (seen (s .verdict) (s .listed) (s .closed) us)))
-        → F (settle last kept l s next (table kept ls)) ≡ due kept (followed (settled last kept (s .from) l (seen (s .verdict) (s .listed) (s .closed) ls)) K)
+    settle-literal : (F : Reader → Result) (K : Seen → Outcome) (l : ℤ) (s next : Scan) (ls : List ℤ)
+        → F (at-rest (unfitting s) (table kept ls)) ≡ failure (Literal (s .from))
+        → ((us : List ℤ) → F (at-rest next (table kept us)) ≡ expected kept (K (seen (s .verdict) (s .listed) (s .closed) us)))
+        → F (settle last kept l s next (table kept ls)) ≡ expected kept (followed (settled last kept (s .from) l (seen (s .verdict) (s .listed) (s .closed) ls)) K)
     unfolding settle settled
     settle-literal F K l s next ls nay yea =
         by (ltb last (natAbs l)) (λ h. rw h nay)
@@ -159,22 +152,22 @@ module _ (last kept : ℕ) where
         (λ m. rw (h, k, le-leb (natAbs l) kept i, table-free kept fits ls (natAbs l) i, m) (ap (λ t. F (at-rest next t)) (table-new kept fits l ls i m) ∙ yea (l ∷ ls)))))
 
     -- both numbers are past the last variable
-    settle-beyond : (F : Reader → Held) (K : Seen → Outcome) (s next : Scan) (x : ℕ) (ls : List ℤ) → 200000000 < x → 200000000 < s .value
-        → F (at-rest (unfitting s) (table kept ls)) ≡ fails (Literal (s .from))
-        → F (ending last kept s next (table kept ls)) ≡ due kept (followed (settled last kept (s .from) (literalOf (s .minus) x) (seen (s .verdict) (s .listed) (s .closed) ls)) K)
+    settle-beyond : (F : Reader → Result) (K : Seen → Outcome) (s next : Scan) (x : ℕ) (ls : List ℤ) → 200000000 < x → 200000000 < s .value
+        → F (at-rest (unfitting s) (table kept ls)) ≡ failure (Literal (s .from))
+        → F (ending last kept s next (table kept ls)) ≡ expected kept (followed (settled last kept (s .from) (literalOf (s .minus) x) (seen (s .verdict) (s .listed) (s .closed) ls)) K)
     unfolding settle settled
     settle-beyond F K s next x ls h k nay =
         let i : ltb last (natAbs (literalOf (s .minus) x)) ≡ true = lt-ltb last (natAbs (literalOf (s .minus) x)) (omega (arith, abs-literal (s .minus) x)) in
         let j : ltb last (natAbs (literalOf (s .minus) (s .value))) ≡ true = lt-ltb last (natAbs (literalOf (s .minus) (s .value))) (omega (arith, abs-literal (s .minus) (s .value))) in
         rw (i, j) nay
 
-    settle-then : (F : Reader → Held) (K : Seen → Outcome) (s next : Scan) (x : ℕ) (ls : List ℤ) → Alike x (s .value)
-        → F (at-rest (unfitting s) (table kept ls)) ≡ fails (Literal (s .from))
-        → ((us : List ℤ) → F (at-rest next (table kept us)) ≡ due kept (K (seen (s .verdict) (s .listed) (s .closed) us)))
-        → F (ending last kept s next (table kept ls)) ≡ due kept (followed (settled last kept (s .from) (literalOf (s .minus) x) (seen (s .verdict) (s .listed) (s .closed) ls)) K)
+    settle-then : (F : Reader → Result) (K : Seen → Outcome) (s next : Scan) (x : ℕ) (ls : List ℤ) → Alike x (s .value)
+        → F (at-rest (unfitting s) (table kept ls)) ≡ failure (Literal (s .from))
+        → ((us : List ℤ) → F (at-rest next (table kept us)) ≡ expected kept (K (seen (s .verdict) (s .listed) (s .closed) us)))
+        → F (ending last kept s next (table kept ls)) ≡ expected kept (followed (settled last kept (s .from) (literalOf (s .minus) x) (seen (s .verdict) (s .listed) (s .closed) ls)) K)
     settle-then F K s next x ls (inl e) nay yea =
         settle-literal F K (literalOf (s .minus) (s .value)) s next ls nay yea
-        ∙ ap (λ y. due kept (followed (settled last kept (s .from) (literalOf (s .minus) y) (seen (s .verdict) (s .listed) (s .closed) ls)) K)) (sym e)
+        ∙ ap (λ y. expected kept (followed (settled last kept (s .from) (literalOf (s .minus) y) (seen (s .verdict) (s .listed) (s .closed) ls)) K)) (sym e)
     settle-then F K s next x ls (inr e) nay yea = settle-beyond F K s next x ls (e .0) (e .1) nay
 
     -- ---- a refused text stays refused
@@ -190,30 +183,30 @@ module _ (last kept : ℕ) where
     literal-step b a v n l c f g w t = by (eqb a 4294967295) (λ e. rw e) (λ e. rw e)
 
     form-stays : (r : List ℕ) (a : ℕ) (v : Verdict) (n : ℕ) (l c : Bool) (f : ℕ) (g : Bool) (w : ℕ) (t : List ℕ)
-        → finally (run last kept (at-rest (scan BadForm a v n l c f g w) t) r) ≡ fails (SolverForm a)
-    unfolding finally endAt
+        → finalResult (run last kept (at-rest (scan BadForm a v n l c f g w) t) r) ≡ failure (SolverForm a)
+    unfolding finalResult endAt
     form-stays [] a v n l c f g w t = refl
-    form-stays (b ∷ r) a v n l c f g w t = ap (λ x. finally (run last kept x r)) (form-step b a v n l c f g w t) ∙ form-stays r a v n l c f g w t
+    form-stays (b ∷ r) a v n l c f g w t = ap (λ x. finalResult (run last kept x r)) (form-step b a v n l c f g w t) ∙ form-stays r a v n l c f g w t
 
     literal-stays : (r : List ℕ) (a : ℕ) (v : Verdict) (n : ℕ) (l c : Bool) (f : ℕ) (g : Bool) (w : ℕ) (t : List ℕ)
-        → finally (run last kept (at-rest (scan BadLiteral a v n l c f g w) t) r) ≡ fails (Literal a)
-    unfolding finally endAt
+        → finalResult (run last kept (at-rest (scan BadLiteral a v n l c f g w) t) r) ≡ failure (Literal a)
+    unfolding finalResult endAt
     literal-stays [] a v n l c f g w t = refl
-    literal-stays (b ∷ r) a v n l c f g w t = ap (λ x. finally (run last kept x r)) (literal-step b a v n l c f g w t) ∙ literal-stays r a v n l c f g w t
+    literal-stays (b ∷ r) a v n l c f g w t = ap (λ x. finalResult (run last kept x r)) (literal-step b a v n l c f g w t) ∙ literal-stays r a v n l c f g w t
 
     -- ---- one byte b, where it is not byte 4,294,967,295, and then the text r, of which the definition sees q
 
     abbrev Claim : ℕ → List ℕ → List ℕ → Type 0
     Claim a r q = (p : Place) (v : Verdict) (n : ℕ) (l c : Bool) (f : ℕ) (g : Bool) (x w : ℕ) (ls : List ℤ) → Alike x w
-        → finally (run last kept (at-rest (scan p a v n l c f g w) (table kept ls)) r) ≡ due kept (rest p a v n l c f g x ls q)
+        → finalResult (run last kept (at-rest (scan p a v n l c f g w) (table kept ls)) r) ≡ expected kept (rest p a v n l c f g x ls q)
 
     module _ (b : ℕ) (r q : List ℕ) (a : ℕ) (here : eqb a 4294967295 ≡ false) (ih : Claim (a + 1) r q) (v : Verdict) (n : ℕ) (l : Bool) (f : ℕ) (g : Bool) (x w : ℕ) (ls : List ℤ)
         (alike : Alike x w) where
       abbrev Step : Place → Bool → Type 0
-      Step p c = finally (run last kept (step last kept (scan p a v n l c f g w) (table kept ls) b) r) ≡ due kept (rest p a v n l c f g x ls (b ∷ q))
+      Step p c = finalResult (run last kept (step last kept (scan p a v n l c f g w) (table kept ls) b) r) ≡ expected kept (rest p a v n l c f g x ls (b ∷ q))
 
       abbrev Fails : Bool → Type 0
-      Fails c = finally (run last kept (at-rest (scan BadForm a v n l c f g w) (table kept ls)) r) ≡ fails (SolverForm a)
+      Fails c = finalResult (run last kept (at-rest (scan BadForm a v n l c f g w) (table kept ls)) r) ≡ failure (SolverForm a)
 
       fail : (c : Bool) → Fails c
       fail c = form-stays r a v n l c f g w (table kept ls)
@@ -288,7 +281,7 @@ module _ (last kept : ℕ) where
           (λ e. by (blank b) (λ k. rw (e, k) (ih BeforeToken v n l true f g x w ls alike)) (λ k. rw (e, k) (fail true))))
       before-token false =
           let d = split blank (split lf q .0) in
-          let close : Outcome → Held = λ y. due kept (followed y (λ z. lines last kept (past (a + 1) (split lf q .0)) z (split lf q .1))) in
+          let close : Outcome → Result = λ y. expected kept (followed y (λ z. lines last kept (past (a + 1) (split lf q .0)) z (split lf q .1))) in
           rw here
           (by (eqb b 10) (λ e. rw (e, lf-not-blank b e) (ih Start v n l false f g x w ls alike))
           (λ e. by (blank b) (λ k. rw (e, k) (ih BeforeToken v n l false f g x w ls alike))
@@ -310,7 +303,7 @@ module _ (last kept : ℕ) where
           let k = split lf q in
           let d = split blank (k .0) in
           let s = scan Digits a v n l c f g w in
-          let F : Reader → Held = λ z. finally (run last kept z r) in
+          let F : Reader → Result = λ z. finalResult (run last kept z r) in
           let spent = literal-stays r f v n l c f g w (table kept ls) in
           rw here
           (by (eqb b 10)
@@ -318,14 +311,14 @@ module _ (last kept : ℕ) where
           let K : Seen → Outcome = λ y. followed (tokens last kept a y []) (λ z. lines last kept a z (k .0 ∷ k .1)) in
           rw (e, lf-not-blank b e)
           (settle-then F K s (scan Start (a + 1) v n l c f g w) x ls alike spent (λ us. ih Start v n l c f g x w us alike)
-          ∙ ap (due kept) (sym (assoc (settled last kept f (literalOf g x) (seen v l c ls)) (λ y. tokens last kept a y []) (λ z. lines last kept a z (k .0 ∷ k .1))))))
+          ∙ ap (expected kept) (sym (assoc (settled last kept f (literalOf g x) (seen v l c ls)) (λ y. tokens last kept a y []) (λ z. lines last kept a z (k .0 ∷ k .1))))))
           (λ e. by (blank b)
           (λ j.
           let M : Seen → Outcome = λ z. lines last kept (past (a + 1) (k .0)) z (k .1) in
           let K : Seen → Outcome = λ y. followed (tokens last kept a y (d .0 ∷ d .1)) M in
           rw (e, j)
           (settle-then F K s (scan BeforeToken (a + 1) v n l c f g w) x ls alike spent (λ us. ih BeforeToken v n l c f g x w us alike)
-          ∙ ap (due kept) (sym (assoc (settled last kept f (literalOf g x) (seen v l c ls)) (λ y. tokens last kept a y (d .0 ∷ d .1)) M))))
+          ∙ ap (expected kept) (sym (assoc (settled last kept f (literalOf g x) (seen v l c ls)) (λ y. tokens last kept a y (d .0 ∷ d .1)) M))))
           (λ j. by (digit b) (λ i. rw (e, j, i) (ih Digits v n l c f g (x * 10 + (b - 48)) (grow w (b - 48)) ls (alike-grow x w (b - 48) alike))) (λ i. rw (e, j, i) (fail c)))))
 
       after-end : (c : Bool) → Step Ended c
@@ -335,7 +328,7 @@ module _ (last kept : ℕ) where
     -- ---- byte 4,294,967,295
 
     at-limit : (r : List ℕ) (a : ℕ) (p : Place) (v : Verdict) (n : ℕ) (l c : Bool) (f : ℕ) (g : Bool) (x w : ℕ) (ls : List ℤ)
-        → finally (run last kept (at-rest (atLimit p (scan p a v n l c f g w)) (table kept ls)) r) ≡ due kept (rest p a v n l c f g x ls (256 ∷ []))
+        → finalResult (run last kept (at-rest (atLimit p (scan p a v n l c f g w)) (table kept ls)) r) ≡ expected kept (rest p a v n l c f g x ls (256 ∷ []))
     unfolding atLimit refusedAt rest blank digit digit19
     at-limit r a Start v n l c f g x w ls = form-stays r a v n l c f g w (table kept ls)
     at-limit r a Comment v n l c f g x w ls = form-stays r a v n l c f g w (table kept ls)
@@ -360,7 +353,7 @@ module _ (last kept : ℕ) where
     -- ---- the end of the text
 
     judge-same : (p : Place) (a : ℕ) (v : Verdict) (n : ℕ) (l c : Bool) (f : ℕ) (g : Bool) (w : ℕ) (ls : List ℤ)
-        → held (at-rest (judge (scan p a v n l c f g w)) (table kept ls)) ≡ due kept (judged last kept a (seen v l c ls))
+        → resultOf (at-rest (judge (scan p a v n l c f g w)) (table kept ls)) ≡ expected kept (judged last kept a (seen v l c ls))
     unfolding judge judged
     judge-same p a v n true true f g w ls = by (unstated v) (λ e. rw e) (λ e. by (satisfiable v) (λ k. rw (e, k)) (λ k. rw (e, k)))
     judge-same p a v n true false f g w ls = by (unstated v) (λ e. rw e) (λ e. by (satisfiable v) (λ k. rw (e, k)) (λ k. rw (e, k)))
@@ -368,8 +361,8 @@ module _ (last kept : ℕ) where
     judge-same p a v n false false f g w ls = by (unstated v) (λ e. rw e) (λ e. by (satisfiable v) (λ k. rw (e, k)) (λ k. rw (e, k)))
 
     at-end : (p : Place) (a : ℕ) (v : Verdict) (n : ℕ) (l c : Bool) (f : ℕ) (g : Bool) (x w : ℕ) (ls : List ℤ) → Alike x w
-        → finally (at-rest (scan p a v n l c f g w) (table kept ls)) ≡ due kept (rest p a v n l c f g x ls [])
-    unfolding finally endAt judgeWord rest
+        → finalResult (at-rest (scan p a v n l c f g w) (table kept ls)) ≡ expected kept (rest p a v n l c f g x ls [])
+    unfolding finalResult endAt judgeWord rest
     at-end Start a v n l c f g x w ls alike = judge-same Start a v n l c f g w ls
     at-end Comment a v n l c f g x w ls alike = judge-same Comment a v n l c f g w ls
     at-end AfterS a v n l c f g x w ls alike = refl
@@ -383,8 +376,8 @@ module _ (last kept : ℕ) where
     at-end Digits a v n l c f g x w ls alike =
         let s = scan Digits a v n l c f g w in
         let K : Seen → Outcome = λ y. followed (tokens last kept a y []) (λ z. lines last kept a z []) in
-        settle-then held K s (judge s) x ls alike refl (λ us. judge-same Digits a v n l c f g w us)
-        ∙ ap (due kept) (sym (assoc (settled last kept f (literalOf g x) (seen v l c ls)) (λ y. tokens last kept a y []) (λ z. lines last kept a z [])))
+        settle-then resultOf K s (judge s) x ls alike refl (λ us. judge-same Digits a v n l c f g w us)
+        ∙ ap (expected kept) (sym (assoc (settled last kept f (literalOf g x) (seen v l c ls)) (λ y. tokens last kept a y []) (λ z. lines last kept a z [])))
     at-end Ended a v n l c f g x w ls alike = refl
     at-end BadForm a v n l c f g x w ls alike = refl
     at-end BadLiteral a v n l c f g x w ls alike = refl
@@ -405,10 +398,10 @@ module _ (last kept : ℕ) where
         s = scan p a v n l c f g w
 
         goal : List ℕ → Type 0
-        goal q = finally (run last kept (step last kept s (table kept ls) b) r) ≡ due kept (rest p a v n l c f g x ls q)
+        goal q = finalResult (run last kept (step last kept s (table kept ls) b) r) ≡ expected kept (rest p a v n l c f g x ls q)
 
         stops : eqb a 4294967295 ≡ true → goal (fenced a (b ∷ r))
-        stops e = subst goal (fenced-limit a b r e) (ap (λ z. finally (run last kept z r)) (limit-step b s (table kept ls) e) ∙ at-limit r a p v n l c f g x w ls)
+        stops e = subst goal (fenced-limit a b r e) (ap (λ z. finalResult (run last kept z r)) (limit-step b s (table kept ls) e) ∙ at-limit r a p v n l c f g x w ls)
 
         goes : eqb a 4294967295 ≡ false → goal (fenced a (b ∷ r))
         goes e = subst goal (fenced-here a b r e) (by-place p)
@@ -416,7 +409,7 @@ module _ (last kept : ℕ) where
             q : List ℕ
             q = fenced (a + 1) r
 
-            by-place : (p : Place) → finally (run last kept (step last kept (scan p a v n l c f g w) (table kept ls) b) r) ≡ due kept (rest p a v n l c f g x ls (b ∷ q))
+            by-place : (p : Place) → finalResult (run last kept (step last kept (scan p a v n l c f g w) (table kept ls) b) r) ≡ expected kept (rest p a v n l c f g x ls (b ∷ q))
             by-place Start = at-start b r q a e ih v n l f g x w ls alike c
             by-place Comment = in-comment b r q a e ih v n l f g x w ls alike c
             by-place AfterS = after-s b r q a e ih v n l f g x w ls alike c
@@ -428,16 +421,16 @@ module _ (last kept : ℕ) where
             by-place AfterMinus = after-minus b r q a e ih v n l f g x w ls alike c
             by-place Digits = in-digits b r q a e ih v n l f g x w ls alike c
             by-place Ended = after-end b r q a e ih v n l f g x w ls alike c
-            by-place BadForm = ap (λ z. finally (run last kept z r)) (form-step b a v n l c f g w (table kept ls)) ∙ form-stays r a v n l c f g w (table kept ls)
-            by-place BadLiteral = ap (λ z. finally (run last kept z r)) (literal-step b a v n l c f g w (table kept ls)) ∙ literal-stays r a v n l c f g w (table kept ls)
+            by-place BadForm = ap (λ z. finalResult (run last kept z r)) (form-step b a v n l c f g w (table kept ls)) ∙ form-stays r a v n l c f g w (table kept ls)
+            by-place BadLiteral = ap (λ z. finalResult (run last kept z r)) (literal-step b a v n l c f g w (table kept ls)) ∙ literal-stays r a v n l c f g w (table kept ls)
 
     claim : (r : List ℕ) (a : ℕ) → Claim a r (fenced a r)
     claim [] a p v n l c f g x w ls alike = at-end p a v n l c f g x w ls alike
     claim (b ∷ r) a p v n l c f g x w ls alike = one-byte b r a (claim r (a + 1)) p v n l c f g x w ls alike
 
     -- a fresh reader, at the end of a text, holds what the definition gives of it
-    pub agrees : (text : List ℕ) → held (end last kept (run last kept fresh text)) ≡ due kept (outcome last kept text)
-    unfolding finally rest outcome
+    pub agrees : (text : List ℕ) → resultOf (end last kept (run last kept fresh text)) ≡ expected kept (outcome last kept text)
+    unfolding finalResult rest outcome
     agrees text =
-        ap (λ t. finally (run last kept (at-rest (scan Start 0 Unstated 0 false false 0 false 0) t) text)) (sym (table-fresh kept))
+        ap (λ t. finalResult (run last kept (at-rest (scan Start 0 Unstated 0 false false 0 false 0) t) text)) (sym (table-fresh kept))
         ∙ claim text 0 Start Unstated 0 false false 0 false 0 0 [] (inl refl)

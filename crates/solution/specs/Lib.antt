@@ -4,6 +4,7 @@ pub mod Machine
 pub mod Calls
 pub mod Objection
 pub mod Cases
+pub mod Literals
 pub mod Counts
 pub mod Range
 pub mod Spelling

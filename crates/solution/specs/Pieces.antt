@@ -20,7 +20,7 @@ use Rattle.solution.specs.Calls.{InRange, Sizes, Reads, none, piece, End
 use Rattle.solution.specs.Counts.{kept-le, last-le}
 use Rattle.solution.specs.Range.{run-kept}
 use Rattle.solution.specs.Table.{table}
-use Rattle.solution.specs.Agreement.{holds, fails, unended, held, heldAt, due, agrees}
+use Rattle.solution.specs.Agreement.{result, failure, unended, resultOf, resultAt, expected, agrees}
 
 abbrev pub joined : List (List ℕ) → List ℕ
 joined [] = []
@@ -62,11 +62,11 @@ clash : {P : Type 0} → _≡_ {A = ℕ} 0 1 → P
 clash e = absurd (omega arith)
 
 module _ (kept : ℕ) where
-  unended-tells : {P : Type 0} (x : Outcome) → unended ≡ due kept x → P
+  unended-tells : {P : Type 0} (x : Outcome) → unended ≡ expected kept x → P
   unended-tells (gives s) e = clash (cc)
   unended-tells (refused y) e = clash (cc)
 
-  ended-tells : (s : Scan) (t : List ℕ) (x : Outcome) → s .place ≡ Ended → holds (s .verdict) t ≡ due kept x
+  ended-tells : (s : Scan) (t : List ℕ) (x : Outcome) → s .place ≡ Ended → result (s .verdict) t ≡ expected kept x
       → Tells kept x (record { answer = Accepted; reader = at-rest s t })
   ended-tells s t (gives y) p e =
       record {
@@ -78,12 +78,12 @@ module _ (kept : ℕ) where
       }
   ended-tells s t (refused y) p e = clash (cc)
 
-  failed-tells : (r : Reader) (y : Refusal) (x : Outcome) → fails y ≡ due kept x → Tells kept x (record { answer = Refused y; reader = r })
+  failed-tells : (r : Reader) (y : Refusal) (x : Outcome) → failure y ≡ expected kept x → Tells kept x (record { answer = Refused y; reader = r })
   failed-tells r y (gives s) e = clash (cc)
   failed-tells r y (refused z) e =
       record { refusal = λ w f. cc; accepted = λ s f. clash (cc); ended = λ s f. clash (cc); verdict = λ s f. clash (cc); named = λ s f. clash (cc) }
 
-  tells : (p : Place) (s : Scan) (t : List ℕ) (x : Outcome) → s .place ≡ p → heldAt p s t ≡ due kept x
+  tells : (p : Place) (s : Scan) (t : List ℕ) (x : Outcome) → s .place ≡ p → resultAt p s t ≡ expected kept x
       → Tells kept x (record { answer = answerAt p (s .at); reader = at-rest s t })
   unfolding answerAt
   tells Start s t x p e = unended-tells x e
@@ -109,5 +109,5 @@ whole-text {a} {n} {m} v z {us} {q} {e} k c =
     let at : q ≡ run L K fresh (joined us) = pieces v z fresh-range k in
     let h : InRange q = subst InRange (sym at) (run-kept L K fresh (joined us) fresh-range) in
     let r = end L K q in
-    let same : held r ≡ due K (outcome L K (joined us)) = ap (λ y. held (end L K y)) at ∙ agrees L K (omega (arith, last-le v z)) (kept-le v z) (joined us) in
+    let same : resultOf r ≡ expected K (outcome L K (joined us)) = ap (λ y. resultOf (end L K y)) at ∙ agrees L K (omega (arith, last-le v z)) (kept-le v z) (joined us) in
     subst (λ y. Tells K (outcome L K (joined us)) y) (sym (c .text v h z)) (tells K (r .scan .place) (r .scan) (r .named) (outcome L K (joined us)) refl same)

@@ -1,10 +1,9 @@
 -- `difference` meets its contract.
 use mathlib.Core.Path.{refl}
 use Prim.Native.Nat.{ℕ}
-use native.Mathlib.Omega.{arith}
 use borrow.Author.Needs.{needs}
 use lib.ListN.{length, length-replicate}
-use Rattle.shortest.specs.State.{zeros-clear}
+use Rattle.shortest.specs.Seen.{zeros-clear}
 use Rattle.shortest.specs.Product.{product-answer}
 use Rattle.shortest.proofs.difference.Statement.{statement}
 use Rattle.shortest.proofs.difference.Tie as tie
@@ -45,14 +44,19 @@ slice-aggregate-first-lasso-4 c = search needs
 slice-aggregate-first-lasso-5 : tie.Need-slice-aggregate-first-lasso-5
 slice-aggregate-first-lasso-5 c = search needs
 
-slice-aggregate-first-lasso-6 : tie.Need-slice-aggregate-first-lasso-6
-slice-aggregate-first-lasso-6 c = search needs
-
 first-lasso-requires : tie.Need-first-lasso-requires
 first-lasso-requires c κs =
-    let T = c .before .before .before .before .before .before .before .before .before .before .before .fill .ensures in (
-      (T .plain-size, T .table-size, length-replicate {A = ℕ} 256 0, search needs, c .before .before .before .before .before .before .before .before .before .before .before .before .before .before .before .before .pre .2),
-      (length-replicate {A = ℕ} 65536 0, length-replicate {A = ℕ} 65538 0, length-replicate {A = ℕ} 65538 0, zeros-clear 256, zeros-clear 65536),
+    let T = c .before .before .before .before .before .before .before .before .before .before .fill .ensures in (
+      record {
+        table-size = T .plain-size;
+        hits-size = search needs;
+        seen-size = length-replicate {A = ℕ} 65536 0;
+        places-size = length-replicate {A = ℕ} 65538 0;
+        letters = c .before .before .before .before .before .before .before .before .before .before .before .before .before .before .before .pre .2;
+        clear = zeros-clear 65536;
+      },
+      T .table-size,
+      length-replicate {A = ℕ} 65538 0,
     )
 
 same-length : tie.Need-same-length
@@ -63,9 +67,9 @@ same-length-2 c = search needs
 
 returns : tie.Need-returns
 returns c =
-    let s = c .before .before .before .before .before .before .before .before .before .before .before .before .before .before .before .before .before .before .before .before .before .before .before .before in
+    let s = c .before .before .before .before .before .before .before .before .before .before .before .before .before .before .before .before .before .before .before .before .before .before .before in
     let f = c .before .before .before .before .before .before .before .first-lasso in
-    product-answer (c .before .before .before .before .before .before .before .before .before .before .before .before .before .before .before .before .before .before .before .fill .ensures) (s .pre .0) (s .pre .1) (s .pre .2) refl (s .args .hits .now) (length (s .args .prefix .now)) (length (s .args .cycle .now)) (s .args .prefix .now) (f .last .1 .1 .1 .1 .1 .1 .1 .1 .1 .0) (s .args .cycle .now) (f .last .1 .1 .1 .1 .1 .1 .1 .1 .1 .1 .0) (f .result) (f .ensures)
+    product-answer (c .before .before .before .before .before .before .before .before .before .before .before .before .before .before .before .before .before .before .fill .ensures) (s .pre .0) (s .pre .1) (s .pre .2) refl (s .args .hits .now) (length (s .args .prefix .now)) (length (s .args .cycle .now)) (s .args .prefix .now) (f .last .1 .1 .1 .1 .1 .1 .1 .1 .0) (s .args .cycle .now) (f .last .1 .1 .1 .1 .1 .1 .1 .1 .1 .0) (f .result) (f .ensures)
 
 pub difference-spec : {M : Type 1} → statement M
 difference-spec =
@@ -83,7 +87,6 @@ difference-spec =
     slice-aggregate-first-lasso-3
     slice-aggregate-first-lasso-4
     slice-aggregate-first-lasso-5
-    slice-aggregate-first-lasso-6
     first-lasso-requires
     same-length
     same-length-2

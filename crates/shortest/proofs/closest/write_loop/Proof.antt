@@ -7,7 +7,7 @@ use Rattle.shortest.proofs.closest.write_loop.Statement.{statement}
 use Rattle.shortest.proofs.closest.write_loop.Tie as tie
 
 search-requires : tie.Need-search-requires
-search-requires c κs = let s = c .before .before .before .before .before .before .before .pre in (s .0, s .1)
+search-requires c κs = c .before .before .before .before .before .before .before .pre
 
 same-length : tie.Need-same-length
 same-length c = search needs

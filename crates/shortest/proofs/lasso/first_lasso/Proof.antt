@@ -1,9 +1,10 @@
 -- `lasso::first_lasso` meets its contract.
-use mathlib.Core.Path.{refl, sym, _∙_}
+use mathlib.Core.Path.{refl}
 use Prim.Native.Nat.{_<_}
 use native.Mathlib.Omega.{arith}
 use borrow.Author.Needs.{needs}
-use Rattle.shortest.specs.ClosestLoop.{places-within}
+use Rattle.shortest.specs.Workspace.{ready-inner}
+use Rattle.shortest.specs.Explored.{places-within}
 use Rattle.shortest.specs.FirstLasso.{answer-none, answer-found, prefix-chain, prefix-fits}
 use Rattle.shortest.proofs.lasso.first_lasso.Statement.{statement}
 use Rattle.shortest.proofs.lasso.first_lasso.Tie as tie
@@ -13,7 +14,7 @@ below : (c : tie.Else1) → c .before .before .before .before .before .choose .r
 below c = omega (arith, c .if1 .left, c .before .before .before .before .before .choose .ensures .0 .high)
 
 search-requires : tie.Need-search-requires
-search-requires c κs = let s = c .before .before .before .before .before .before .before .before .before .before .before .pre in ((s .0 .0, s .0 .2, s .0 .4, s .1 .0, s .1 .1), s .1 .4)
+search-requires c κs = c .before .before .before .before .before .before .before .before .before .before .pre .0
 
 add-choose : tie.Need-add-choose
 add-choose c = search needs
@@ -23,9 +24,9 @@ add-choose-2 c = search needs
 
 choose-requires : tie.Need-choose-requires
 choose-requires c κs =
-    let s = c .before .before .before .before .before .before .before .before .before .before .before .before .before .before .before .before .before .before .before .pre in
-    let x = c .before .before .before .before .before .before .before .search in
-    ((s .0 .1, s .0 .3, s .0 .4, x .kept .1 .1 .0 ∙ s .1 .0, s .1 .2, places-within (x .ensures .0)), x .ensures .1)
+    let (R, t, i) = c .before .before .before .before .before .before .before .before .before .before .before .before .before .before .before .before .before .before .pre in
+    let x = c .before .before .before .before .before .before .before .search .ensures in
+    (ready-inner (x .1) t i, places-within (x .0))
 
 same-length : tie.Need-same-length
 same-length c = search needs
@@ -38,8 +39,8 @@ same-length-3 c = search needs
 
 returns : tie.Need-returns
 returns c =
-    let s = c .before .before .before .before .before .before .before .before .before .before .before .before .before .before .before .before .before .before .before .before .before .before .before .before .before in
-    answer-none (c .before .before .before .before .before .before .before .before .before .before .before .before .before .search .ensures .0) (s .pre .1 .3) (c .before .before .before .before .before .choose .ensures .0) (s .args .prefix .now) (s .args .cycle .now) (c .if1 .taken)
+    let s = c .before .before .before .before .before .before .before .before .before .before .before .before .before .before .before .before .before .before .before .before .before .before .before .before in
+    answer-none (c .before .before .before .before .before .before .before .before .before .before .before .before .before .search .ensures .0) (c .before .before .before .before .before .choose .ensures .0) (s .args .prefix .now) (s .args .cycle .now) (c .if1 .taken)
 
 mul-place : tie.Need-mul-place
 mul-place c = omega (arith, below c, places-within (c .before .before .before .before .before .before .before .before .before .before .before .before .before .search .ensures .0))
@@ -51,10 +52,7 @@ node-requires : tie.Need-node-requires
 node-requires c κs = tt
 
 write-loop-requires : tie.Need-write-loop-requires
-write-loop-requires c κs =
-    let s = c .before .before .before .before .before .before .before .before .before .before .before .before .before .before .before .before .before .before .before .before .before .before .before .before .before .before .before .before .before .before .pre in
-    let x = c .before .before .before .before .before .before .before .before .before .before .choose in
-    ((s .0 .1, s .0 .3, s .0 .4, x .kept .1 .1 .0 ∙ c .before .before .before .before .before .before .before .before .before .before .before .before .before .before .before .before .before .before .search .kept .1 .1 .0 ∙ s .1 .0, x .kept .1 .1 .1 .0 ∙ s .1 .2), x .ensures .1)
+write-loop-requires c κs = c .before .before .before .before .before .before .before .before .before .before .choose .ensures .1
 
 depth-requires : tie.Need-depth-requires
 depth-requires c κs = tt
@@ -63,11 +61,10 @@ write-word-requires : tie.Need-write-word-requires
 write-word-requires c κs =
     let X = c .before .before .before .before .before .before .before .before .before .before .before .before .before .before .before .before .before .before .before .before .before .before .before .before .before .before .before .before .search .ensures .0 in
     let C = c .before .before .before .before .before .before .before .before .before .before .before .before .before .before .before .before .before .before .before .before .choose .ensures .0 in
-    let none = c .before .before .before .before .before .before .before .before .before .before .before .before .before .before .before .before .before .before .before .before .before .before .before .before .before .before .before .before .before .before .before .before .before .before .before .before .before .before .before .before .pre .1 .3 in
     let d = c .before .before .depth in
     let e = c .before .before .before .before .before .before .before .before .before .before .before .node .ensures in
     let W = c .before .before .before .before .before .before .before .before .before .write-loop .ensures in
-    (prefix-chain X none C (below (c .before .before .before .before .before .before .before .before .before .before .before .before .before .before .before)) e refl W (d .result) (d .ensures), omega (arith, prefix-fits X none C (below (c .before .before .before .before .before .before .before .before .before .before .before .before .before .before .before)) e refl W, d .ensures))
+    (prefix-chain X C (below (c .before .before .before .before .before .before .before .before .before .before .before .before .before .before .before)) e refl W (d .result) (d .ensures), omega (arith, prefix-fits X C (below (c .before .before .before .before .before .before .before .before .before .before .before .before .before .before .before)) e refl W, d .ensures))
 
 same-length-4 : tie.Need-same-length-4
 same-length-4 c = search needs
@@ -86,7 +83,7 @@ same-length-8 c = search needs
 
 returns-2 : tie.Need-returns-2
 returns-2 c =
-    answer-found (c .before .before .before .before .before .before .before .before .before .before .before .before .before .before .before .before .before .before .before .before .before .before .before .before .before .before .before .before .before .before .before .search .ensures .0) (c .before .before .before .before .before .before .before .before .before .before .before .before .before .before .before .before .before .before .before .before .before .before .before .before .before .before .before .before .before .before .before .before .before .before .before .before .before .before .before .before .before .before .before .pre .1 .3) (c .before .before .before .before .before .before .before .before .before .before .before .before .before .before .before .before .before .before .before .before .before .before .before .choose .ensures .0) (below (c .before .before .before .before .before .before .before .before .before .before .before .before .before .before .before .before .before .before)) (c .before .before .before .before .before .before .before .before .before .before .before .before .before .before .node .ensures) refl (c .before .before .before .before .before .before .before .before .before .before .before .before .write-loop .ensures)
+    answer-found (c .before .before .before .before .before .before .before .before .before .before .before .before .before .before .before .before .before .before .before .before .before .before .before .before .before .before .before .before .before .before .before .search .ensures .0) (c .before .before .before .before .before .before .before .before .before .before .before .before .before .before .before .before .before .before .before .before .before .before .before .choose .ensures .0) (below (c .before .before .before .before .before .before .before .before .before .before .before .before .before .before .before .before .before .before)) (c .before .before .before .before .before .before .before .before .before .before .before .before .before .before .node .ensures) refl (c .before .before .before .before .before .before .before .before .before .before .before .before .write-loop .ensures)
     (c .before .before .before .before .before .depth .ensures) (c .before .before .write-word .ensures)
 
 pub first-lasso-spec : {M : Type 1} → statement M

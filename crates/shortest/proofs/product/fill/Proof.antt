@@ -2,7 +2,8 @@
 use mathlib.Core.Path.{sym, _∙_}
 use Prim.Native.Nat.{_-_, _≤_}
 use native.Mathlib.Omega.{arith}
-use Rattle.shortest.specs.Product.{Tables, tables-none, tables-more, tables-all}
+use borrow.Author.Needs.{needs}
+use Rattle.shortest.specs.ProductTables.{Tables, tables-none, tables-more, tables-all}
 use Rattle.shortest.proofs.product.fill.Statement.{statement}
 use Rattle.shortest.proofs.product.fill.Tie as tie
 
@@ -16,10 +17,10 @@ loop-holds : tie.Need-loop-holds Inv-loop μ-loop
 loop-holds c = (tables-none (c .before .before .pre .1 .0) (c .before .before .pre .1 .1), omega arith)
 
 pair-requires : tie.Need-pair-requires Inv-loop μ-loop
-pair-requires c κs = (c .loop-test .taken, c .before .before .before .before .pre .0 .0, c .before .before .before .before .pre .0 .2)
+pair-requires c κs = search needs
 
 pair-requires-2 : tie.Need-pair-requires-2 Inv-loop μ-loop
-pair-requires-2 c κs = (c .before .loop-test .taken, c .before .before .before .before .before .pre .0 .1, c .before .before .before .before .before .pre .0 .3)
+pair-requires-2 c κs = search needs
 
 mul-plain : tie.Need-mul-plain Inv-loop μ-loop
 mul-plain c = omega (arith, c .before .pair .ensures .1)

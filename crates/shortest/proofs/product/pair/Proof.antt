@@ -4,7 +4,7 @@ use Prim.Native.Nat.{_+_, _*_, _/_, _%_, _<_}
 use native.Mathlib.Omega.{arith}
 use borrow.Author.Needs.{needs}
 use Rattle.shortest.specs.Graph.{at}
-use Rattle.shortest.specs.Product.{pair-lt}
+use Rattle.shortest.specs.ProductTables.{pair-lt}
 use Rattle.shortest.proofs.product.pair.Statement.{statement}
 use Rattle.shortest.proofs.product.pair.Tie as tie
 

@@ -3,42 +3,31 @@ use mathlib.Core.Path.{sym, _∙_}
 use Prim.Native.Nat.{_-_}
 use native.Mathlib.Omega.{arith}
 use Rattle.shortest.specs.Graph.{at}
-use Rattle.shortest.specs.State.{nodeOf, re-root, at-root}
-use Rattle.shortest.specs.Explored.{first-of, Exploring, Turned, exploring-root, stopped-far, stopped-end, turn}
+use Rattle.shortest.specs.Packing.{nodeOf}
+use Rattle.shortest.specs.State.{re-root, at-root}
+use Rattle.shortest.specs.Explored.{Exploring, Turned, exploring-root, stopped-far, stopped-end, turn}
 use Rattle.shortest.proofs.search.explore.Statement.{statement}
 use Rattle.shortest.proofs.search.explore.Tie as tie
-use Rattle.shortest.proofs.search.explore.Reads as reads
-use Rattle.shortest.proofs.search.explore.Lts as lts
-use Rattle.shortest.proofs.places.depth.Reads as depth-reads
-use Rattle.shortest.proofs.places.node.Reads as node-reads
-use Rattle.shortest.proofs.search.expand.Reads as expand-reads
-use Rattle.shortest.proofs.search.first_hit.Reads as first-hit-reads
 
 abbrev Inv-loop : tie.InvT-loop
-Inv-loop table hits seen₀ places₀ letters bound root n₀ here₀ seen places n here =
-    Exploring table hits seen places letters (nodeOf (at places₀ 0)) bound n here
+Inv-loop table hits seen₀ places₀ letters pair bound n₀ here₀ seen places n here =
+    Exploring table hits seen places letters (nodeOf (at places₀ 0)) pair bound n here
 
 abbrev μ-loop : tie.MeasureT-loop
-μ-loop table hits seen₀ places₀ letters bound root n₀ here₀ seen places n here = 65537 - here
+μ-loop table hits seen₀ places₀ letters pair bound n₀ here₀ seen places n here = 65537 - here
 
 turned : (c : tie.After-first-hit Inv-loop μ-loop)
-    → let s = c .before .before .before .before .before .before .before .before .before .before .before .before .before .before .before .before .before .before .before .before .args in
+    → let s = c .before .before .before .before .before .before .before .before .before .before .before .before .before .before .before .before .before .before .args in
     let x = c .before .before .before .before .before .before .expand in
-    Turned (s .table .now) (s .hits .now) (x .last .1 .0) (x .last .1 .1 .0) (s .letters) (nodeOf (at (s .places .now) 0)) (s .bound) (x .result) (c .first-hit .result) (c .before .before .before .before .before .before .before .before .before .before .before .before .before .loop .here)
+    Turned (s .table .now) (s .hits .now) (x .last .1 .0) (x .last .1 .1 .0) (s .letters) (nodeOf (at (s .places .now) 0)) (s .pair) (s .bound) (x .result) (c .first-hit .result) (c .before .before .before .before .before .before .before .before .before .before .before .before .before .loop .here)
 turned c =
     let t = c .before .before .before .before .before .before .before .before .before .before .before .before .before .loop in
     let x = c .before .before .before .before .before .before .expand .ensures in
     turn (t .inv) (c .before .before .before .before .before .before .before .before .before .before .before .before .loop-test .taken) (omega (arith, c .before .before .before .before .before .before .before .before .before .if1 .left, c .before .before .before .before .before .before .before .before .before .before .depth .ensures)) (at-root (t .inv .state) (x .0)) (x .1 .0) (x .1 .1)
-    (first-of (c .before .before .before .before .before .before .before .before .before .before .before .before .before .before .node .ensures) (c .first-hit .ensures))
-
-slice-read-node : tie.Need-slice-read-node Inv-loop μ-loop
-slice-read-node c = omega (arith, c .before .before .before .before .before .pre .0 .places-size)
-
-node-requires : tie.Need-node-requires Inv-loop μ-loop
-node-requires c κs = tt
+    (c .first-hit .ensures)
 
 loop-holds : tie.Need-loop-holds Inv-loop μ-loop
-loop-holds c = exploring-root (c .before .before .before .before .before .before .args .bound) (c .before .before .before .before .before .before .pre .0)
+loop-holds c = exploring-root (c .before .before .before .before .args .bound) (c .before .before .before .before .pre .0)
 
 mul-depth : tie.Need-mul-depth Inv-loop μ-loop
 mul-depth c = omega (arith, c .loop-test .taken, c .before .loop .inv .state .limit)
@@ -50,10 +39,10 @@ depth-requires : tie.Need-depth-requires Inv-loop μ-loop
 depth-requires c κs = tt
 
 same-length : tie.Need-same-length Inv-loop μ-loop
-same-length c = c .before .before .before .before .loop .inv .state .seen-size ∙ sym (c .before .before .before .before .before .before .before .before .before .before .before .pre .0 .seen-size)
+same-length c = c .before .before .before .before .loop .inv .state .seen-size ∙ sym (c .before .before .before .before .before .before .before .before .before .pre .0 .seen-size)
 
 same-length-2 : tie.Need-same-length-2 Inv-loop μ-loop
-same-length-2 c = c .before .before .before .before .loop .inv .state .places-size ∙ sym (c .before .before .before .before .before .before .before .before .before .before .before .pre .0 .places-size)
+same-length-2 c = c .before .before .before .before .loop .inv .state .places-size ∙ sym (c .before .before .before .before .before .before .before .before .before .pre .0 .places-size)
 
 returns : tie.Need-returns Inv-loop μ-loop
 returns c = stopped-far (c .before .before .before .before .loop .inv) (omega (arith, c .if1 .taken, c .before .depth .ensures))
@@ -64,13 +53,13 @@ expand-requires c κs = (re-root (c .before .before .before .before .before .bef
 first-hit-requires : tie.Need-first-hit-requires Inv-loop μ-loop
 first-hit-requires c κs =
     let x = c .before .before .before .before .before .expand .ensures in
-    (x .1 .0, omega (arith, x .0 .limit, x .0 .places-size), c .before .before .before .before .before .before .before .before .before .before .before .before .before .before .before .before .before .before .before .pre .1)
+    (x .1 .0, omega (arith, x .0 .limit, x .0 .places-size), c .before .before .before .before .before .before .before .before .before .before .before .before .before .before .before .before .before .pre .1)
 
 same-length-3 : tie.Need-same-length-3 Inv-loop μ-loop
-same-length-3 c = c .before .before .before .before .before .before .before .expand .ensures .0 .seen-size ∙ sym (c .before .before .before .before .before .before .before .before .before .before .before .before .before .before .before .before .before .before .before .before .before .pre .0 .seen-size)
+same-length-3 c = c .before .before .before .before .before .before .before .expand .ensures .0 .seen-size ∙ sym (c .before .before .before .before .before .before .before .before .before .before .before .before .before .before .before .before .before .before .before .pre .0 .seen-size)
 
 same-length-4 : tie.Need-same-length-4 Inv-loop μ-loop
-same-length-4 c = c .before .before .before .before .before .before .before .expand .ensures .0 .places-size ∙ sym (c .before .before .before .before .before .before .before .before .before .before .before .before .before .before .before .before .before .before .before .before .before .pre .0 .places-size)
+same-length-4 c = c .before .before .before .before .before .before .before .expand .ensures .0 .places-size ∙ sym (c .before .before .before .before .before .before .before .before .before .before .before .before .before .before .before .before .before .before .before .pre .0 .places-size)
 
 returns-2 : tie.Need-returns-2 Inv-loop μ-loop
 returns-2 c = turned (c .before) .stop (c .if2 .taken)
@@ -85,10 +74,10 @@ loop-again : tie.Need-loop-again Inv-loop μ-loop
 loop-again c = turned (c .before) .go-on (c .if2 .left)
 
 same-length-5 : tie.Need-same-length-5 Inv-loop μ-loop
-same-length-5 c = c .before .loop .inv .state .seen-size ∙ sym (c .before .before .before .before .before .before .before .before .pre .0 .seen-size)
+same-length-5 c = c .before .loop .inv .state .seen-size ∙ sym (c .before .before .before .before .before .before .pre .0 .seen-size)
 
 same-length-6 : tie.Need-same-length-6 Inv-loop μ-loop
-same-length-6 c = c .before .loop .inv .state .places-size ∙ sym (c .before .before .before .before .before .before .before .before .pre .0 .places-size)
+same-length-6 c = c .before .loop .inv .state .places-size ∙ sym (c .before .before .before .before .before .before .pre .0 .places-size)
 
 returns-3 : tie.Need-returns-3 Inv-loop μ-loop
 returns-3 c = stopped-end (c .before .loop .inv) (c .loop-test .left)
@@ -99,8 +88,6 @@ explore-spec =
     (tie.spec
     Inv-loop
     μ-loop
-    slice-read-node
-    node-requires
     loop-holds
     mul-depth
     slice-read-depth

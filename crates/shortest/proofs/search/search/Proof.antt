@@ -1,28 +1,22 @@
 -- `search::search` meets its contract.
+use mathlib.Core.Path.{_∙_}
 use native.Mathlib.Omega.{arith}
 use borrow.Author.Needs.{needs}
-use Rattle.shortest.specs.State.{begin, re-root, node-root, marked-places}
-use Rattle.shortest.specs.Explored.{searched}
+use Rattle.shortest.specs.State.{begin, re-root, node-root, seen-places}
+use Rattle.shortest.specs.Explored.{searched, searched-ready}
 use Rattle.shortest.proofs.search.search.Statement.{statement}
 use Rattle.shortest.proofs.search.search.Tie as tie
-use Rattle.shortest.proofs.search.search.Reads as reads
-use Rattle.shortest.proofs.search.search.Lts as lts
-use Rattle.shortest.proofs.search.explore.Reads as explore-reads
-use Rattle.shortest.proofs.search.unmark.Reads as unmark-reads
 
 slice-write-places : tie.Need-slice-write-places
 slice-write-places c = search needs
 
 explore-requires : tie.Need-explore-requires
-explore-requires c κs =
-    let s = c .before .before .before .before .before .before in
-    let (d, h, l, m, p) = s .pre .0 in
-    (re-root (begin (s .args .table .now) (s .args .seen .now) (s .args .places .now) (s .args .letters) (s .args .root) d m p l (s .pre .1) (omega arith)), h)
+explore-requires c κs = let s = c .before .before .before .before .before .before in (re-root (begin (s .pre) (s .args .root) (omega arith)), s .pre .hits-size)
 
-unmark-requires : tie.Need-unmark-requires
-unmark-requires c κs =
-    let X = c .before .before .before .before .before .before .explore .ensures in
-    (marked-places (X .state), omega (arith, X .state .limit, X .state .places-size))
+forget-requires : tie.Need-forget-requires
+forget-requires c κs =
+    let S = c .before .before .before .before .before .before .explore .ensures .state in
+    (seen-places S, omega (arith, S .limit, S .places-size))
 
 same-length : tie.Need-same-length
 same-length c = search needs
@@ -33,7 +27,10 @@ same-length-2 c = search needs
 returns : tie.Need-returns
 returns c =
     let s = c .before .before .before .before .before .before .before .before .before .before .before .before .before .before .before .before in
-    (searched (node-root (s .args .places .now) (s .args .root) (omega arith) (omega (arith, s .pre .0 .4))) (c .before .before .before .before .before .before .before .before .before .explore .ensures), c .before .before .unmark .ensures)
+    let E = c .before .before .before .before .before .before .before .before .before .explore .ensures in
+    let u = c .before .before .forget in
+    let X = searched (node-root (s .pre) (s .args .root) (omega arith)) E in
+    (X, searched-ready X (s .pre .hits-size) (u .kept .0 ∙ E .state .seen-size) (u .ensures))
 
 pub search-spec : {M : Type 1} → statement M
 search-spec =
@@ -41,7 +38,7 @@ search-spec =
     (tie.spec
     slice-write-places
     explore-requires
-    unmark-requires
+    forget-requires
     same-length
     same-length-2
     returns)

@@ -1,12 +1,12 @@
 -- `word::write_word` meets its contract.
-use mathlib.Core.Path.{_≡_, refl, _∙_}
+use mathlib.Core.Path.{_≡_, refl}
 use mathlib.Core.List.{_++_}
 use Prim.Native.Nat.{_<_}
 use native.Mathlib.Omega.{arith}
 use lib.ListN.{length, drop, length-set}
 use Rattle.shortest.specs.SearchWords.{back}
-use Rattle.shortest.specs.State.{view}
 use Rattle.shortest.specs.ReadBack.{Reading, read-within, read-one, read-all}
+use Rattle.shortest.specs.Packing.{view}
 use Rattle.shortest.proofs.word.write_word.Statement.{statement}
 use Rattle.shortest.proofs.word.write_word.Tie as tie
 

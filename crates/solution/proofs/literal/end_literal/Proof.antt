@@ -6,7 +6,7 @@ use denote.Ref.{now}
 use lib.IntN.{ℤ}
 use mir.Syntax.{w32}
 use mir.ValLaws.{toZ-ofZ}
-use Rattle.solution.proofs.Laws.{literal-abs}
+use Rattle.solution.specs.Literals.{abs-literal}
 use borrow.Author.Needs.{needs}
 use Rattle.solution.proofs.literal.end_literal.Statement.{statement}
 use Rattle.solution.proofs.literal.end_literal.Tie as tie
@@ -18,7 +18,7 @@ settle-requires : tie.Need-settle-requires
 settle-requires c κs =
     let a = c .before .before .args in
     let e = toZ-ofZ w32 (c .before .literal-of .result) (record { sfits = c .before .literal-of .ok }) in
-    rw (e, c .before .literal-of .ensures, literal-abs (a .s .minus) (a .s .value)) (omega arith)
+    rw (e, c .before .literal-of .ensures, abs-literal (a .s .minus) (a .s .value)) (omega arith)
 
 returns : tie.Need-returns
 returns c =

@@ -3,7 +3,8 @@ use native.Mathlib.Omega.{arith}
 use lib.IntN.{+ℤ-idl}
 use mir.Syntax.{w32}
 use mir.ValLaws.{toZ-ofZ}
-use Rattle.solution.proofs.Signs.{neg-fits, natAbs-neg, below, above}
+use Rattle.solution.proofs.Signs.{neg-fits, below, above}
+use Rattle.solution.specs.Literals.{abs-neg}
 use borrow.Author.Needs.{needs}
 use Rattle.solution.proofs.literal.variable.Statement.{statement}
 use Rattle.solution.proofs.literal.variable.Tie as tie
@@ -15,10 +16,10 @@ cast-result : tie.Need-cast-result
 cast-result c =
     let a = c .before in
     let l = a .args .literal in
-    rw (toZ-ofZ w32 l (a .fits .literal), toZ-ofZ w32 _ (neg-fits l (a .pre)), +ℤ-idl) (below l (rw (toZ-ofZ w32 l (a .fits .literal)) at (c .if1 .taken)), rw (natAbs-neg l) (omega (arith, a .pre)))
+    rw (toZ-ofZ w32 l (a .fits .literal), toZ-ofZ w32 _ (neg-fits l (a .pre)), +ℤ-idl) (below l (rw (toZ-ofZ w32 l (a .fits .literal)) at (c .if1 .taken)), rw (abs-neg l) (omega (arith, a .pre)))
 
 returns : tie.Need-returns
-returns c = let a = c .before in let l = a .args .literal in rw (toZ-ofZ w32 l (a .fits .literal), toZ-ofZ w32 _ (neg-fits l (a .pre)), +ℤ-idl) (natAbs-neg l)
+returns c = let a = c .before in let l = a .args .literal in rw (toZ-ofZ w32 l (a .fits .literal), toZ-ofZ w32 _ (neg-fits l (a .pre)), +ℤ-idl) (abs-neg l)
 
 cast-result-2 : tie.Need-cast-result-2
 cast-result-2 c = let a = c .before in let l = a .args .literal in rw (toZ-ofZ w32 l (a .fits .literal)) (above l (rw (toZ-ofZ w32 l (a .fits .literal)) at (c .if1 .left)), omega (arith, a .pre))

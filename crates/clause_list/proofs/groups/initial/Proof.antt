@@ -1,0 +1,29 @@
+-- `initial` meets its contract.
+use mathlib.Core.Path.{refl, ap, _∙_, subst}
+use lib.IntN.{pos}
+use lib.Pow.{pow-pos}
+use lib.ListN.{length-set}
+use Rattle.clause_list.proofs.Laws.{stored, wrote-first}
+use native.Mathlib.Omega.{arith}
+use Rattle.clause_list.proofs.groups.initial.Statement.{statement}
+use Rattle.clause_list.proofs.groups.initial.Tie as tie
+
+path-number-requires : tie.Need-path-number-requires
+path-number-requires c κs = let f = c .pre .0 in (f, (f .n-some, c .pre .1 .0, f .n-some, c .pre .1 .0, pow-pos _, pow-pos _, refl))
+
+positive-requires : tie.Need-positive-requires
+positive-requires c κs = omega (arith, c .path-number .ensures .small)
+
+slice-set-from-out : tie.Need-slice-set-from-out
+slice-set-from-out c = omega arith
+
+same-length : tie.Need-same-length
+same-length c = simp length-set
+
+returns : tie.Need-returns
+returns c = wrote-first (omega arith) (stored (c .positive .ok) ∙ c .positive .ensures ∙ ap pos (c .before .path-number .ensures .is))
+
+pub initial-spec : {M : Type 1} → statement M
+initial-spec =
+    tie.close
+    (tie.spec path-number-requires positive-requires slice-set-from-out same-length returns)

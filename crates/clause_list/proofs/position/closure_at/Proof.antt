@@ -1,0 +1,42 @@
+-- `closure_at` meets its contract.
+use mathlib.Core.Path.{_≡_, refl, sym, _∙_, subst}
+use mathlib.Core.Bool.{true, false}
+use borrow.Author.Tests.{not-true, not-false}
+use Rattle.decimal.specs.Writing.{wrote-length}
+use Rattle.clause_list.specs.Groups.{Within}
+use Rattle.clause_list.specs.Indices.{closure-within}
+use Rattle.clause_list.proofs.Places.{indices-lt, closure-none, closure-written}
+use Rattle.clause_list.proofs.position.closure_at.Statement.{statement}
+use Rattle.clause_list.proofs.position.closure_at.Tie as tie
+
+-- the indices lie in their ranges
+within : (c : tie.After-closure-indices) → Within (c .before .args .z) (c .closure-indices .result)
+within c =
+    let s = c .before in
+    subst (Within (s .args .z)) (sym (c .closure-indices .ensures)) (closure-within (s .args .z) _ _ (s .pre .0) (s .args .x) (s .pre .1 .0))
+
+closure-indices-requires : tie.Need-closure-indices-requires
+closure-indices-requires c κs = (c .pre .0 .fits, c .pre .1 .0)
+
+entry-requires : tie.Need-entry-requires
+entry-requires c κs = indices-lt (c .before .before .pre .0 .fits) (within (c .before))
+
+one-full-requires : tie.Need-one-full-requires
+one-full-requires c κs = c .before .before .before .before .before .pre .0 .fits
+
+returns : tie.Need-returns
+returns c = closure-none (c .before .before .before .before .before .before .before .args .z) (c .before .before .before .before .before .before .before .args .destinations .now) (c .before .before .before .before .before .before .before .args .marks .now) _ (c .before .before .before .before .before .before .closure-indices .ensures) (c .before .before .before .before .entry .ensures) (sym (c .before .one-full .ensures) ∙ not-true _ (c .if1 .taken))
+
+premise-requires : tie.Need-premise-requires
+premise-requires c κs = (c .before .before .before .before .before .before .before .before .pre .0 .fits, (within (c .before .before .before .before .before .before .before), c .before .before .before .before .before .before .before .before .pre .1 .1))
+
+same-length : tie.Need-same-length
+same-length c = wrote-length (c .before .premise .ensures)
+
+returns-2 : tie.Need-returns-2
+returns-2 c = closure-written (c .before .before .before .before .before .before .before .before .before .before .args .z) (c .before .before .before .before .before .before .before .before .before .before .args .destinations .now) (c .before .before .before .before .before .before .before .before .before .before .args .marks .now) _ (c .before .before .before .before .before .before .before .before .before .closure-indices .ensures) (c .before .before .before .before .before .before .before .entry .ensures) (sym (c .before .before .before .before .one-full .ensures) ∙ not-false _ (c .before .before .before .if1 .left)) (c .before .premise .ensures)
+
+pub closure-at-spec : {M : Type 1} → statement M
+closure-at-spec =
+    tie.close
+    (tie.spec closure-indices-requires entry-requires one-full-requires returns premise-requires same-length returns-2)

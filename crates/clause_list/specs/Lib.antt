@@ -1,0 +1,7 @@
+pub mod Tables
+pub mod Groups
+pub mod Indices
+pub mod Position
+pub mod Next
+pub mod Following
+pub mod Handing

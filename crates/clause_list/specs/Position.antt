@@ -1,0 +1,102 @@
+-- What stands at a position, by group, and that it is what stands there in the file.
+use mathlib.Core.Path.{_≡_, refl, sym, ap, ap₂, _∙_}
+use mathlib.Core.Bool.{Bool, true, false, cond, xor}
+use mathlib.Core.List.{List, [], _∷_}
+use Prim.Native.Nat.{ℕ, _+_, _-_, _*_, _/_, _%_, _^_, _≤_, _<_}
+use native.Mathlib.Omega.{arith}
+use borrow.Author.Tests.{lt-ltb, le-ltb}
+use lib.Dec.{eqb, ltb}
+use lib.IntN.{ℤ}
+use lib.ListN.{length, getD}
+use Rattle.meaning.specs.Automata.{EverySet}
+use Rattle.encoding.specs.Variables.{Task}
+use Rattle.encoding.specs.Clauses.{_∪_, only, marks-of, totality, initial, successor, extension, closure, not-marks, exactly-one}
+use Rattle.encoding.specs.Loops.{then-at}
+use Rattle.encoding.specs.MarkSets.{set-of-has}
+use Rattle.encoding.specs.Base.{exactly-one-full}
+use Rattle.encoding.specs.Positions.{at₁, at₂, successor-at, at₃, at₄, at-position, size₁, size₂, size₃, positions}
+use Rattle.decimal.specs.Wrote.{Wrote}
+use Rattle.variables.specs.declared.sizes.Sizes.{Sizes}
+use Rattle.variables.specs.Sizes.{Fitting}
+use Rattle.variables.specs.Numbers.{counted, numberOf}
+use Rattle.clause_list.specs.declared.position.Extent.{Extent}
+use Rattle.clause_list.specs.Tables.{tabled, taskOf, Tables}
+use Rattle.clause_list.specs.Groups.{Within, totalityOf, initialOf, successorOf, premiseOf, extensionOf}
+use Rattle.clause_list.specs.Indices.{extensions, closures, successors, extensionIndices, closureIndices, extension-within, closure-within}
+
+-- the one clause of `cs` is written at the start of d, and r is its length; or `cs` is empty, nothing is written, and r is 0
+pub data Stands {A : Type 0} (d : List A) (cs : List (List A)) (e : List A) (r : ℕ) : Type 0 where
+  one : (c : List A) → cs ≡ c ∷ [] → Wrote d 0 c e r → 0 < r → Stands d cs e r
+  none : cs ≡ [] → e ≡ d → r ≡ 0 → Stands d cs e r
+
+pub stands-same : {A : Type 0} {d e : List A} {cs ds : List (List A)} {r : ℕ} → cs ≡ ds → Stands d ds e r → Stands d cs e r
+stands-same q (one c p w h) = one c (q ∙ p) w h
+stands-same q (none p w h) = none (q ∙ p) w h
+
+-- ---- by group
+
+abbrev pub successorAt : Sizes → List ℕ → ℕ → List ℤ
+successorAt z destinations x =
+    let n = z .candidate .states in
+    let r = z .reference .states in
+    let L = z .letters in
+    successorOf z (x / L / r / n) (x / L / r % n) (x / L % r) (x % L) (getD destinations (x / L % r * 16 + x % L) 0)
+
+abbrev pub extensionAt : Sizes → List ℕ → List ℕ → ℕ → List ℤ
+extensionAt z destinations marks x =
+    let i = extensionIndices z x in
+    let at = i .v .0 * 16 + i .l in
+    extensionOf z i (getD destinations at 0) (getD marks at 0)
+
+abbrev pub oneFull : Sizes → ℕ → ℕ → Bool
+oneFull z candidate reference = xor (eqb candidate (2 ^ z .candidate .sets - 1)) (eqb reference (2 ^ z .reference .sets - 1))
+
+abbrev pub closureAt : Sizes → List ℕ → List ℕ → ℕ → List (List ℤ)
+closureAt z destinations marks x =
+    let i = closureIndices z destinations x in
+    only (oneFull z (i .i ∪ i .k) (i .j ∪ getD marks (i .v .0 * 16 + i .l) 0)) (premiseOf z i)
+
+module _ (z : Sizes) (start : ℕ) (destinations marks : List ℕ) where
+  abbrev T : Task
+  T = taskOf z start destinations marks
+
+  pub at₁-is : (x : ℕ) → at₁ T (numberOf z) x ≡ totalityOf z (x / z .letters) (x % z .letters) (z .candidate .states) ∷ []
+  unfolding at₁ totality
+  at₁-is x = refl
+
+  pub initial-is : initial T (numberOf z) ≡ initialOf z start
+  unfolding initial
+  initial-is = refl
+
+  pub successor-is : (x : ℕ) → successor-at T (numberOf z) x ≡ successorAt z destinations x ∷ []
+  unfolding successor-at successor
+  successor-is x = refl
+
+  module _ (tables : Tables z destinations marks) where
+    marks-is : (v l : ℕ) → v < z .reference .states → l < z .letters → marks-of (tabled z start destinations marks) v l ≡ getD marks (v * 16 + l) 0
+    marks-is v l hv hl = set-of-has (z .reference .sets) (getD marks (v * 16 + l) 0) (tables .marks-lt v l hv hl)
+
+    pub at₃-is : (x : ℕ) → x < extensions z → at₃ T (numberOf z) x ≡ extensionAt z destinations marks x ∷ []
+    unfolding at₃ extension not-marks only
+    at₃-is x h =
+        let w = extension-within z x h in
+        let i = extensionIndices z x in
+        ap (λ F. extensionOf z i (getD destinations (i .v .0 * 16 + i .l) 0) F ∷ []) (marks-is (i .v .0) (i .l) (w .v-lt) (w .l-lt))
+
+    pub at₄-is : (x : ℕ) → x < closures z → at₄ T (numberOf z) x ≡ closureAt z destinations marks x
+    unfolding at₄ closure not-marks EverySet
+    at₄-is x h =
+        let w = closure-within z destinations marks tables x h in
+        let i = closureIndices z destinations x in
+        ap (λ b. only b (premiseOf z i))
+        (exactly-one-full (tabled z start destinations marks) (z .candidate .states) (z .candidate .sets) (λ S. refl) (i .v .0) (i .l) (i .i) (i .j) (i .k) (w .i-lt) (w .j-lt) (w .k-lt)
+        ∙ ap (λ F. oneFull z (i .i ∪ i .k) (i .j ∪ F)) (marks-is (i .v .0) (i .l) (w .v-lt) (w .l-lt)))
+
+-- ---- how many positions
+
+pub record ExtentOf (z : Sizes) (g : Extent) : Type 0 where
+  pub first-is : g .first ≡ z .candidate .states * z .letters
+  pub second-is : g .second ≡ 1 + successors z
+  pub third-is : g .third ≡ extensions z
+  pub all-is : g .all ≡ g .first + (g .second + (g .third + closures z))
+  pub all-le : g .all ≤ 8_657_059_969

@@ -1,0 +1,149 @@
+// The clause at a position, where there is one.
+use crate::groups::extension;
+use crate::groups::initial;
+use crate::groups::premise;
+use crate::groups::successor;
+use crate::groups::totality;
+use crate::indices::closure_indices;
+use crate::indices::entry;
+use crate::indices::extension_indices;
+use crate::indices::transition_at;
+use automaton::Automaton;
+use automaton::states::CandidateState;
+use automaton::states::ReferenceState;
+use variables::sizes::Sizes;
+ghost use mathlib.Core.Path.{_≡_};
+ghost use Prim.Native.Nat.{_≤_, _<_};
+ghost use lib.ListN.{length};
+ghost use Rattle.encoding.specs.Positions.{«at-position»};
+ghost use Rattle.variables.specs.Sizes.{Fitting};
+ghost use Rattle.variables.specs.Numbers.{numberOf};
+ghost use Rattle.clause_list.specs.Tables.{StepsWithin, taskOf, Tables};
+ghost use Rattle.clause_list.specs.Indices.{extensions, closures, successors};
+ghost use Rattle.decimal.specs.Wrote.{Wrote};
+ghost use Rattle.clause_list.specs.Position.{Stands, ExtentOf, successorAt, extensionAt, closureAt, oneFull};
+
+// How many positions groups 1, 2 and 3 have, and how many there are in all.
+pub struct Extent {
+    pub first: usize,
+    pub second: usize,
+    pub third: usize,
+    pub all: usize,
+}
+
+pub fn extent_of(z: Sizes) -> Extent
+    requires { ⌜ Fitting z ⌝ }
+    ensures { λ r. ⌜ ExtentOf z r ⌝ }
+{
+    let n = z.candidate.states;
+    let r = z.reference.states;
+    let own = z.candidate.subsets;
+    let other = z.reference.subsets;
+    let first = n * z.letters;
+    let moves = n * n * r * z.letters;
+    let markings = own * other * own;
+    let third = n * r * (moves * markings);
+    Extent {
+        first,
+        second: 1 + moves,
+        third,
+        all: first + (1 + moves + (third + moves * markings)),
+    }
+}
+
+// Writes the clause at position x, where there is one, and returns how many literals it has; else nothing, and 0.
+pub fn clause_at(
+    z: Sizes,
+    g: Extent,
+    start: ReferenceState,
+    destinations: &[u8; Automaton::CELLS],
+    marks: &[u8; Automaton::CELLS],
+    x: usize,
+    out: &mut [i32],
+) -> usize
+    requires { ⌜ Tables z (now destinations) (now marks) × (start .0 < z .reference .states) ⌝ }
+    requires { ⌜ ExtentOf z g × (x < g .all) × (8 ≤ length (now out)) ⌝ }
+    ensures { λ r. ⌜ Stands (now (out .entry)) («at-position» (taskOf z (start .0) (now (destinations .entry)) (now (marks .entry))) (numberOf z) x) (now (out .exit)) r ⌝ }
+{
+    if x < g.first {
+        return totality(z, CandidateState(x / z.letters), x % z.letters, out);
+    }
+    let y = x - g.first;
+    if y < g.second {
+        if y < 1 {
+            return initial(z, start, out);
+        }
+        return successor_at(z, destinations, y - 1, out);
+    }
+    let t = y - g.second;
+    if t < g.third {
+        return extension_at(z, destinations, marks, t, out);
+    }
+    closure_at(z, destinations, marks, t - g.third, out)
+}
+
+// Group 2 after its first clause.
+fn successor_at(z: Sizes, destinations: &[u8; Automaton::CELLS], x: usize, out: &mut [i32]) -> usize
+    requires { ⌜ Fitting z × StepsWithin z (now destinations) ⌝ }
+    requires { ⌜ (x < successors z) × (8 ≤ length (now out)) ⌝ }
+    ensures { λ r. ⌜ Wrote (now (out .entry)) 0 (successorAt z (now (destinations .entry)) x) (now (out .exit)) r ⌝ }
+{
+    let a = transition_at(z, x);
+    let u = a.v;
+    let q = CandidateState(a.rest / z.candidate.states);
+    let p = CandidateState(a.rest % z.candidate.states);
+    let w = entry(destinations, u, a.l);
+    successor(z, q, p, u, a.l, ReferenceState(w), out)
+}
+
+// Group 3.
+fn extension_at(
+    z: Sizes,
+    destinations: &[u8; Automaton::CELLS],
+    marks: &[u8; Automaton::CELLS],
+    x: usize,
+    out: &mut [i32],
+) -> usize
+    requires { ⌜ Tables z (now destinations) (now marks) ⌝ }
+    requires { ⌜ (x < extensions z) × (8 ≤ length (now out)) ⌝ }
+    ensures { λ r. ⌜ Wrote (now (out .entry)) 0 (extensionAt z (now (destinations .entry)) (now (marks .entry)) x) (now (out .exit)) r ⌝ }
+{
+    let indices = extension_indices(z, x);
+    let v = indices.v;
+    let w = entry(destinations, v, indices.l);
+    let f = entry(marks, v, indices.l);
+    extension(z, indices, ReferenceState(w), f, out)
+}
+
+// Group 4.
+fn closure_at(
+    z: Sizes,
+    destinations: &[u8; Automaton::CELLS],
+    marks: &[u8; Automaton::CELLS],
+    x: usize,
+    out: &mut [i32],
+) -> usize
+    requires { ⌜ Tables z (now destinations) (now marks) ⌝ }
+    requires { ⌜ (x < closures z) × (8 ≤ length (now out)) ⌝ }
+    ensures { λ r. ⌜ Stands (now (out .entry)) (closureAt z (now (destinations .entry)) (now (marks .entry)) x) (now (out .exit)) r ⌝ }
+{
+    let indices = closure_indices(z, destinations, x);
+    let v = indices.v;
+    let f = entry(marks, v, indices.l);
+    if !one_full(z, indices.i | indices.k, indices.j | f) {
+        return 0;
+    }
+    premise(z, indices, out)
+}
+
+// "exactly one of "I∪K is all m" and "J∪F is all s""
+fn one_full(z: Sizes, candidate: usize, reference: usize) -> bool
+    requires { ⌜ Fitting z ⌝ }
+    ensures { λ r. ⌜ r ≡ oneFull z candidate reference ⌝ }
+{
+    let full = reference == z.reference.subsets - 1;
+    if candidate == z.candidate.subsets - 1 {
+        return !full;
+    }
+    full
+}

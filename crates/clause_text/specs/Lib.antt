@@ -1,0 +1,5 @@
+pub mod Text
+pub mod LineLength
+pub mod Filling
+pub mod Answers
+pub mod LineNext

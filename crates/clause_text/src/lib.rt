@@ -1,0 +1,103 @@
+// The clause file as text: one line a call, or as many lines as a buffer holds.
+use crate::batch::Filled;
+use crate::batch::fill;
+use crate::batch::next_line;
+use automaton::Automaton;
+use automaton::refusal::Refusal;
+use automaton::states::ReferenceState;
+use clause_list::position::extent_of;
+use clauses::Answer;
+use clauses::Handed;
+use clauses::LAST;
+use clauses::hand_over;
+use variables::sizes::Sized;
+use variables::sizes::Sizes;
+use variables::sizes::measure;
+ghost use Prim.Native.Nat.{_≤_};
+ghost use lib.ListN.{length};
+ghost use Rattle.clause_list.specs.Tables.{Measured};
+ghost use Rattle.clause_text.specs.Answers.{LineStepped, LineFound, BatchStepped, BatchFound};
+
+mod batch;
+mod writing;
+
+// The bytes that a clause line may want.
+pub const LINE: usize = 80;
+
+// Writes the line of the next clause of the file for the reference, n and m.
+pub fn line(reference: Automaton, n: usize, m: usize, position: u64, text: &mut [u8]) -> Handed
+    ensures { λ r. ⌜ LineStepped reference n m position (now (text .entry)) (now (text .exit)) r ⌝ }
+{
+    let given = text.len();
+    if given < LINE {
+        return hand_over(Answer::Refused(Refusal::Short(LINE, given)), position);
+    }
+    if position > LAST {
+        return hand_over(Answer::Refused(Refusal::Outside), position);
+    }
+    let sized = measure(reference, n, m);
+    match sized {
+        Sized::Of(z) => one_line(reference, z, position, text),
+        Sized::Refused(refusal) => hand_over(Answer::Refused(refusal), position),
+    }
+}
+
+// Writes the lines of the next clauses, as long as there are 80 bytes for one more.
+pub fn lines(reference: Automaton, n: usize, m: usize, position: u64, text: &mut [u8]) -> Handed
+    ensures { λ r. ⌜ BatchStepped reference n m position (now (text .entry)) (now (text .exit)) r ⌝ }
+{
+    let given = text.len();
+    if given < LINE {
+        return hand_over(Answer::Refused(Refusal::Short(LINE, given)), position);
+    }
+    if position > LAST {
+        return hand_over(Answer::Refused(Refusal::Outside), position);
+    }
+    let sized = measure(reference, n, m);
+    match sized {
+        Sized::Of(z) => many_lines(reference, z, position, text),
+        Sized::Refused(refusal) => hand_over(Answer::Refused(refusal), position),
+    }
+}
+
+// Where all is in order: z are the file's sizes.
+fn one_line(reference: Automaton, z: Sizes, position: u64, text: &mut [u8]) -> Handed
+    requires { ⌜ Measured reference z ⌝ }
+    requires { ⌜ 80 ≤ length (now text) ⌝ }
+    ensures { λ r. ⌜ LineFound reference (z .candidate .states) (z .candidate .sets) position (now (text .entry)) (now (text .exit)) (r .answer) (r .position) ⌝ }
+{
+    let destinations = reference.destinations;
+    let marks = reference.marks;
+    let g = extent_of(z);
+    let start = ReferenceState(reference.start);
+    let next = next_line(
+        z,
+        g,
+        start,
+        &destinations,
+        &marks,
+        position as usize,
+        text,
+        0,
+    );
+    if next.end == 0 {
+        return hand_over(Answer::Ended, next.position as u64);
+    }
+    hand_over(Answer::Written(next.end), next.position as u64)
+}
+
+fn many_lines(reference: Automaton, z: Sizes, position: u64, text: &mut [u8]) -> Handed
+    requires { ⌜ Measured reference z ⌝ }
+    requires { ⌜ 80 ≤ length (now text) ⌝ }
+    ensures { λ r. ⌜ BatchFound reference (z .candidate .states) (z .candidate .sets) position (now (text .entry)) (now (text .exit)) (r .answer) (r .position) ⌝ }
+{
+    let destinations = reference.destinations;
+    let marks = reference.marks;
+    let g = extent_of(z);
+    let start = ReferenceState(reference.start);
+    let filled = fill(z, g, start, &destinations, &marks, position as usize, text);
+    if filled.end == 0 {
+        return hand_over(Answer::Ended, filled.position as u64);
+    }
+    hand_over(Answer::Written(filled.end), filled.position as u64)
+}

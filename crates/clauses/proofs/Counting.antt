@@ -1,0 +1,139 @@
+-- The counts of the header.
+use mathlib.Core.Path.{_≡_, refl, sym, ap, ap₂, _∙_, subst}
+use mathlib.Core.Logic.{_≢_}
+use mathlib.Core.Bool.{Bool, cond}
+use mathlib.Core.List.{List}
+use Prim.Native.Nat.{ℕ, zero, suc, _+_, _-_, _*_, _/_, _%_, _^_, _≤_, _<_}
+use native.Mathlib.Nat.{mul-le-mul, mod-lt}
+use native.Mathlib.Numerals.{add-one}
+use native.Mathlib.Omega.{arith}
+use borrow.Author.Tests.{eq-eqb, ne-eqb}
+use lib.Dec.{eqb}
+use lib.Pow.{pow-mono}
+use lib.ListN.{length, getD}
+use Rattle.automaton.specs.declared.Automaton.{Automaton}
+use Rattle.automaton.specs.Value.{Valid}
+use Rattle.automaton.specs.View.{view}
+use Rattle.encoding.specs.Variables.{base, base-number, base-variables}
+use Rattle.encoding.specs.Clauses.{group₄, base-file}
+use Rattle.encoding.specs.Loops.{total}
+use Rattle.encoding.specs.Base.{base-length}
+use Rattle.encoding.specs.Numbering.{split}
+use Rattle.variables.specs.declared.sizes.Sizes.{Sizes}
+use Rattle.variables.specs.Sizes.{Dimensioned, Fitting}
+use Rattle.variables.specs.Numbers.{numberOf, counted}
+use Rattle.clause_list.specs.declared.position.Extent.{Extent}
+use Rattle.clause_list.specs.Tables.{Measured, tabled, measured-tables}
+use Rattle.clause_list.specs.Position.{ExtentOf}
+use Rattle.clauses.specs.ClosureCount.{pairsFor, closuresBy, closureCount, closure-length}
+use Rattle.clauses.specs.declared.header.Totals.{Totals}
+use Rattle.clauses.specs.declared.header.Totals.the-variants.{Of, Refused}
+use Rattle.clauses.specs.Header.{HeaderTotals, Headed, lastVariable}
+
+-- ---- a sum in a loop
+
+pub total-none : (h : ℕ → ℕ) → 0 ≡ total 0 h
+unfolding total
+total-none h = refl
+
+pub total-more : (i : ℕ) (h : ℕ → ℕ) {s t : ℕ} → s ≡ total i h → t ≡ h i → s + t ≡ total (i + 1) h
+unfolding total
+total-more i h e q = rw (add-one i) (ap₂ _+_ e q)
+
+-- ---- the pairs I, K
+
+pub three-le : (m : ℕ) → m ≤ 4 → 3 ^ m ≤ 2 ^ m * 2 ^ m
+three-le zero h = omega arith
+three-le (suc zero) h = omega arith
+three-le (suc (suc zero)) h = omega arith
+three-le (suc (suc (suc zero))) h = omega arith
+three-le (suc (suc (suc (suc zero)))) h = omega arith
+three-le (suc (suc (suc (suc (suc m))))) h = absurd (omega arith)
+
+module _ {z : Sizes} (f : Fitting z) where
+  subsets-le : {k x : ℕ} → k ≤ 4 → x ≡ 2 ^ k → x ≤ 16
+  subsets-le h e = omega (arith, e, pow-mono {j = 4} h)
+
+  pub own-le : z .candidate .subsets ≤ 16
+  own-le = subsets-le (f .m-le) (f .candidate-subsets)
+
+  pub other-le : z .reference .subsets ≤ 16
+  other-le = subsets-le (f .s-le) (f .reference-subsets)
+
+  pub pairs-le : z .candidate .subsets * z .candidate .subsets ≤ 256
+  pairs-le = mul-le-mul own-le own-le
+
+  pub full-le : {p : ℕ} → p ≡ 3 ^ z .candidate .sets → p ≤ z .candidate .subsets * z .candidate .subsets
+  full-le e = rw (e, f .candidate-subsets) (three-le (z .candidate .sets) (f .m-le))
+
+  pub pairs-other : {p : ℕ} (u : ℕ) → p ≡ 3 ^ z .candidate .sets → u ≡ z .reference .subsets - 1
+      → z .candidate .subsets * z .candidate .subsets - p ≡ pairsFor z u
+  pairs-other u e q = rw (e, f .candidate-subsets, eq-eqb u (2 ^ z .reference .sets - 1) (q ∙ ap (λ x. x - 1) (f .reference-subsets)))
+
+  pub pairs-full : {p : ℕ} (u : ℕ) → p ≡ 3 ^ z .candidate .sets → u ≢ z .reference .subsets - 1 → p ≡ pairsFor z u
+  pairs-full u e q = rw (e, ne-eqb u (2 ^ z .reference .sets - 1) (λ i. q (i ∙ ap (λ x. x - 1) (sym (f .reference-subsets)))))
+
+  -- ---- the transitions
+
+  pub transitions-le : z .reference .states * z .letters ≤ 256
+  transitions-le = mul-le-mul (f .r-le) (f .letters-le)
+
+  pub transition-place : (y : ℕ) → y < z .reference .states * z .letters → (y / z .letters < 16) × (y % z .letters < 16)
+  transition-place y h =
+      let s = split y (z .reference .states) (z .letters) h in
+      (omega (arith, s .0, f .r-le), omega (arith, s .1, f .letters-le))
+
+  -- ---- V
+
+  pub states-le : z .candidate .states * z .reference .states ≤ 128
+  states-le = mul-le-mul (f .n-le) (f .r-le)
+
+  pub states-square-le : z .candidate .states * z .reference .states * (z .candidate .states * z .reference .states) ≤ 16384
+  states-square-le = mul-le-mul states-le states-le
+
+  pub markings-le : z .candidate .subsets * z .reference .subsets ≤ 256
+  markings-le = mul-le-mul own-le other-le
+
+  pub paths-le : z .candidate .states * z .reference .states * (z .candidate .states * z .reference .states) * (z .candidate .subsets * z .reference .subsets) ≤ 4194304
+  paths-le = mul-le-mul states-square-le markings-le
+
+  square-le : z .candidate .states * z .candidate .states * z .letters ≤ 1024
+  square-le = mul-le-mul (mul-le-mul (f .n-le) (f .n-le)) (f .letters-le)
+
+  pub marks-le : z .marks ≤ 5120
+  marks-le = omega (arith, f .marks-is, f .steps-is, square-le, mul-le-mul square-le (f .m-le))
+
+  pub last-variable-is : z .marks
+      + z .candidate .states * z .reference .states * (z .candidate .states * z .reference .states) * (z .candidate .subsets * z .reference .subsets) ≡ lastVariable z
+  last-variable-is = rw (f .marks-is, f .steps-is, f .candidate-subsets, f .reference-subsets) (omega arith)
+
+-- ---- C
+
+pub square-cap : {n : ℕ} → n ≤ 8 → n * n ≤ 64
+square-cap h = mul-le-mul h h
+
+pub closures-cap : {n c : ℕ} → n ≤ 8 → c ≤ 1048576 → n * n * c ≤ 67108864
+closures-cap h l = mul-le-mul (square-cap h) l
+
+module _ {a : Automaton} {z : Sizes} (w : Measured a z) where
+  pub variables-are : lastVariable z ≡ base-variables (view a) (z .candidate .states) (z .candidate .sets)
+  variables-are = ap (λ y. base-variables (counted y) (z .candidate .states) (z .candidate .sets)) (w .sized)
+
+  pub clauses-are : {g : Extent} {c : ℕ} → ExtentOf z g → c ≡ closureCount z (a .marks)
+      → g .first + g .second + g .third + z .candidate .states * z .candidate .states * c ≡ length (base-file (view a) (z .candidate .states) (z .candidate .sets))
+  clauses-are k e =
+      omega (
+        arith,
+        k .first-is,
+        k .second-is,
+        k .third-is,
+        base-length (tabled z (a .start) (a .destinations) (a .marks)) (z .candidate .states) (z .candidate .sets),
+        closure-length z (a .start) (a .destinations) (a .marks) (measured-tables w),
+        ap (λ c. z .candidate .states * z .candidate .states * c) e,
+      )
+      ∙ ap (λ y. length (base-file (tabled y (a .start) (a .destinations) (a .marks)) (z .candidate .states) (z .candidate .sets))) (w .sized)
+
+-- the header's answer, where nothing is turned down
+pub headed : (a : Automaton) (n m : ℕ) (t : Totals) → Valid a → Dimensioned n m → HeaderTotals a n m t → Headed a n m t
+headed a n m (Of last count) v i h = (v, i, h)
+headed a n m (Refused f) v i h = absurd h

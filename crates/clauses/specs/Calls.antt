@@ -1,0 +1,51 @@
+-- DEFINITIONS: a list of calls of the clause step, and what is said of it. Document 01, "The words of demand 3": "Each call gets the same
+-- reference, n and m, .. a buffer of any length and the state as the call before it, refused or not, left it".
+use mathlib.Core.Path.{_≡_}
+use mathlib.Core.List.{List, [], _∷_, _++_, List·Memᴰ}
+use mathlib.Core.Option.{Option, none, some}
+use Prim.Native.Nat.{ℕ, zero, suc, _<_}
+use lib.IntN.{ℤ}
+use lib.ListN.{length, take}
+use Rattle.automaton.specs.declared.Automaton.{Automaton}
+use Rattle.automaton.specs.declared.refusal.Refusal.{Refusal}
+use Rattle.automaton.specs.View.{view}
+use Rattle.encoding.specs.Clauses.{base-file}
+use Rattle.clauses.specs.declared.Answer.{Answer}
+use Rattle.clauses.specs.declared.Answer.the-variants.{Written, Ended, Refused}
+use Rattle.clauses.specs.declared.Handed.{Handed}
+use Rattle.clauses.specs.Step.{Stepped}
+
+-- the position handed in, the buffer before and after, and what came back
+pub record Call : Type 0 where
+  pub from : ℕ
+  pub before : List ℤ
+  pub after : List ℤ
+  pub result : Handed
+
+-- calls from position x on, each at the position that the one before it left
+abbrev pub Calls : (a : Automaton) (n m x : ℕ) → List Call → Type 0
+Calls a n m x [] = Unit {0}
+Calls a n m x (c ∷ cs) = (c .from ≡ x) × Stepped a n m x (c .before) (c .after) (c .result) × Calls a n m (c .result .position) cs
+
+-- what a call that is not refused says: the literals at the start of the buffer, or none where the list has ended
+abbrev pub said : Answer → List ℤ → List (Option (List ℤ))
+said (Written k) after = some (take k after) ∷ []
+said Ended after = none ∷ []
+said (Refused f) after = []
+
+abbrev pub all-said : List Call → List (Option (List ℤ))
+all-said [] = []
+all-said (c ∷ cs) = said (c .result .answer) (c .after) ++ all-said cs
+
+-- k answers: the clauses in order, one each, and then "ended" again and again
+abbrev pub in-order : List (List ℤ) → (k : ℕ) → List (Option (List ℤ))
+in-order cs zero = []
+in-order [] (suc k) = none ∷ in-order [] k
+in-order (c ∷ cs) (suc k) = some c ∷ in-order cs k
+
+-- what the clause step does over a whole list of calls
+pub record HandsOut (a : Automaton) (n m : ℕ) (cs : List Call) : Type 0 where
+  pub answers : all-said cs ≡ in-order (base-file (view a) n m) (length (all-said cs))
+  -- a call is refused for its buffer only, and keeps the position and the buffer
+  pub refused : (c : Call) → List·Memᴰ c cs → (f : Refusal) → c .result .answer ≡ Refused f
+      → (length (c .before) < 8) × (c .result .position ≡ c .from) × (c .after ≡ c .before)

@@ -1,0 +1,27 @@
+-- DEFINITION: the numbers of the header, on all input. "The header is `p cnf V C`, C counted beforehand".
+use mathlib.Core.Path.{_≡_}
+use Prim.Native.Nat.{ℕ}
+use lib.ListN.{length}
+use Rattle.automaton.specs.declared.Automaton.{Automaton}
+use Rattle.automaton.specs.Value.{Valid}
+use Rattle.automaton.specs.View.{view}
+use Rattle.encoding.specs.Variables.{base-variables}
+use Rattle.encoding.specs.Clauses.{base-file}
+use Rattle.variables.specs.declared.sizes.Sizes.{Sizes}
+use Rattle.variables.specs.Numbers.{counted}
+use Rattle.variables.specs.Sizes.{Dimensioned, Refuses}
+use Rattle.clauses.specs.declared.header.Totals.{Totals}
+use Rattle.clauses.specs.declared.header.Totals.the-variants.{Of, Refused}
+
+-- V is the last variable, C the number of clauses of the file
+abbrev pub HeaderTotals : Automaton → (n m : ℕ) → Totals → Type 0
+HeaderTotals a n m (Of last count) = (last ≡ base-variables (view a) n m) × (count ≡ length (base-file (view a) n m))
+HeaderTotals a n m (Refused f) = ⊥
+
+abbrev pub Headed : Automaton → (n m : ℕ) → Totals → Type 0
+Headed a n m (Of last count) = Valid a × Dimensioned n m × HeaderTotals a n m (Of last count)
+Headed a n m (Refused f) = Refuses a n m f
+
+-- V by the sizes
+abbrev pub lastVariable : Sizes → ℕ
+lastVariable z = base-variables (counted z) (z .candidate .states) (z .candidate .sets)

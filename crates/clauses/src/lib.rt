@@ -1,0 +1,85 @@
+// The clause file, handed out: its clauses one by one, and its header.
+use automaton::Automaton;
+use automaton::refusal::Refusal;
+use automaton::states::ReferenceState;
+use clause_list::next::next_clause;
+use clause_list::position::extent_of;
+use variables::sizes::Sized;
+use variables::sizes::Sizes;
+use variables::sizes::measure;
+ghost use mathlib.Core.Path.{_≡_};
+ghost use Prim.Native.Nat.{_≤_};
+ghost use lib.ListN.{length};
+ghost use Rattle.clause_list.specs.Tables.{Measured};
+ghost use Rattle.clauses.specs.Step.{Stepped, StepFound, handedOver};
+
+pub mod header;
+
+// The literals that the longest clause has.
+pub const CLAUSE: usize = 8;
+
+// The position after the last clause of the largest file. A carried position lies in 0 to this one.
+pub const LAST: u64 = 8657059969;
+
+pub enum Answer {
+    // So much is written at the start of the buffer.
+    Written(usize),
+    // The last clause has been handed out.
+    Ended,
+    Refused(Refusal),
+}
+
+// The answer, and the position for the next call. The fresh position is 0.
+pub struct Handed {
+    pub answer: Answer,
+    pub position: u64,
+}
+
+// Writes the next clause of the file for the reference, n and m.
+pub fn step(reference: Automaton, n: usize, m: usize, position: u64, clause: &mut [i32]) -> Handed
+    ensures { λ r. ⌜ Stepped reference n m position (now (clause .entry)) (now (clause .exit)) r ⌝ }
+{
+    let given = clause.len();
+    if given < CLAUSE {
+        return hand_over(Answer::Refused(Refusal::Short(CLAUSE, given)), position);
+    }
+    if position > LAST {
+        return hand_over(Answer::Refused(Refusal::Outside), position);
+    }
+    let sized = measure(reference, n, m);
+    match sized {
+        Sized::Of(z) => find(reference, z, position, clause),
+        Sized::Refused(refusal) => hand_over(Answer::Refused(refusal), position),
+    }
+}
+
+pub fn hand_over(answer: Answer, position: u64) -> Handed
+    ensures { λ r. ⌜ r ≡ handedOver answer position ⌝ }
+{
+    Handed { answer, position }
+}
+
+// Where all is in order: z are the file's sizes.
+fn find(reference: Automaton, z: Sizes, position: u64, clause: &mut [i32]) -> Handed
+    requires { ⌜ Measured reference z ⌝ }
+    requires { ⌜ (position ≤ 8657059969) × (8 ≤ length (now clause)) ⌝ }
+    ensures { λ r. ⌜ StepFound reference (z .candidate .states) (z .candidate .sets) position (now (clause .entry)) (now (clause .exit)) (r .answer) (r .position) ⌝ }
+{
+    let destinations = reference.destinations;
+    let marks = reference.marks;
+    let g = extent_of(z);
+    let start = ReferenceState(reference.start);
+    let next = next_clause(
+        z,
+        g,
+        start,
+        &destinations,
+        &marks,
+        position as usize,
+        clause,
+    );
+    if next.length == 0 {
+        return hand_over(Answer::Ended, next.position as u64);
+    }
+    hand_over(Answer::Written(next.length), next.position as u64)
+}

@@ -1,0 +1,100 @@
+-- Bounds of the numbers on the way to a variable's number, and the negative of a variable.
+use mathlib.Core.Path.{_≡_, sym, ap, _∙_}
+use mathlib.Core.Bool.{Bool, true, false, false≢true}
+use Prim.Native.Nat.{ℕ, zero, suc, _+_, _*_, _^_, _≤_, _<_, min}
+use native.Mathlib.Nat.{mul-le-mul}
+use native.Mathlib.Omega.{arith}
+use lib.Arith.{digits-lt}
+use lib.Pow.{pow-mono}
+use lib.IntN.{pos, negℤ, _-ℤ_, +ℤ-idl}
+use mir.Syntax.{w32}
+use mir.Val.{SFits, toZ}
+use mir.ValLaws.{toZ-pos}
+use Rattle.encoding.specs.Variables.{step, mark, path}
+use Rattle.variables.specs.declared.sizes.Sizes.{Sizes}
+use Rattle.variables.specs.Sizes.{Fitting, measured}
+use Rattle.variables.specs.Numbers.{InFile, numberOf}
+
+-- one more digit below its base, after a number below a bound
+digit-lt : {a b base : ℕ} (c d : ℕ) → a < c → b < base → base ≤ d → a * base + b < c * d
+digit-lt c d h k l = omega (arith, digits-lt h k, mul-le-mul {n₁ = c} {n₂ = c} (omega arith) l)
+
+pub square-le : {n L : ℕ} → n ≤ 8 → L ≤ 16 → n * n * L ≤ 1024
+square-le hn hL = mul-le-mul (mul-le-mul hn hn) hL
+
+module _ {z : Sizes} (f : Fitting z) where
+  pub row-lt : {q l : ℕ} → q < z .candidate .states → l < z .letters → q * z .letters + l < 128
+  row-lt hq hl = digit-lt 8 16 (omega (arith, f .n-le)) hl (f .letters-le)
+
+  pub step-lt : {q l p : ℕ} → InFile z (step q l p) → (q * z .letters + l) * z .candidate .states + p < 1024
+  step-lt h = digit-lt 128 8 (row-lt (h .0) (h .1)) (h .2) (f .n-le)
+
+  pub mark-row-lt : {q l i p : ℕ} → InFile z (mark q l i p) → (q * z .letters + l) * z .candidate .sets + i < 512
+  mark-row-lt h = digit-lt 128 4 (row-lt (h .0) (h .1)) (h .2) (f .m-le)
+
+  pub mark-lt : {q l i p : ℕ} → InFile z (mark q l i p) → ((q * z .letters + l) * z .candidate .sets + i) * z .candidate .states + p < 4096
+  mark-lt h = digit-lt 512 8 (mark-row-lt h) (h .3) (f .n-le)
+
+  pub steps-le : z .steps ≤ 1024
+  steps-le = omega (arith, f .steps-is, square-le (f .n-le) (f .letters-le))
+
+  pub marks-le : z .marks ≤ 5120
+  marks-le = omega (arith, f .marks-is, steps-le, mul-le-mul (square-le (f .n-le) (f .letters-le)) (f .m-le))
+
+  subset-le : {k x : ℕ} → k ≤ 4 → x ≡ 2 ^ k → x ≤ 16
+  subset-le h e = omega (arith, e, pow-mono {j = 4} h)
+
+  pub record PathBounds (q u p v I J : ℕ) : Type 0 where
+    pub one : q * z .reference .states + u < 128
+    pub two : (q * z .reference .states + u) * z .candidate .states + p < 1024
+    pub three : ((q * z .reference .states + u) * z .candidate .states + p) * z .reference .states + v < 16384
+    pub four : (((q * z .reference .states + u) * z .candidate .states + p) * z .reference .states + v) * z .candidate .subsets + I < 262144
+    pub five : ((((q * z .reference .states + u) * z .candidate .states + p) * z .reference .states + v) * z .candidate .subsets + I) * z .reference .subsets + J < 4194304
+
+  pub path-lt : {q u p v I J : ℕ} → InFile z (path q u p v I J) → PathBounds q u p v I J
+  path-lt {q} {u} {p} {v} {I} {J} (hq, hu, hp, hv, hI, hJ, kept) =
+      let h₁ = digit-lt {a = q} {b = u} 8 16 (omega (arith, f .n-le)) hu (f .r-le) in
+      let h₂ = digit-lt 128 8 h₁ hp (f .n-le) in
+      let h₃ = digit-lt 1024 16 h₂ hv (f .r-le) in
+      let h₄ = digit-lt {b = I} 16384 16 h₃ (omega (arith, f .candidate-subsets)) (subset-le (f .m-le) (f .candidate-subsets)) in
+      record { one = h₁; two = h₂; three = h₃; four = h₄; five = digit-lt {b = J} 262144 16 h₄ (omega (arith, f .reference-subsets)) (subset-le (f .s-le) (f .reference-subsets)) }
+
+  pub mark-is : (q l i p : ℕ)
+      → z .steps + (1 + (((q * z .letters + l) * z .candidate .sets + i) * z .candidate .states + p)) ≡ numberOf z (mark q l i p)
+  mark-is q l i p = rw (f .steps-is)
+
+  pub path-is : (q u p v I J : ℕ)
+      → z .marks + (1 + (((((q * z .reference .states + u) * z .candidate .states + p) * z .reference .states + v) * z .candidate .subsets + I) * z .reference .subsets + J))
+      ≡ numberOf z (path q u p v I J)
+  path-is q u p v I J =
+      rw (f .marks-is, f .steps-is, f .candidate-subsets, f .reference-subsets)
+
+-- ---- the negative of a variable
+
+pub negated : (v : ℕ) → v < 2147483648 → pos 0 -ℤ toZ w32 v ≡ negℤ (pos v)
+negated v h = ap (λ x. pos 0 -ℤ x) (toZ-pos w32 v h) ∙ +ℤ-idl (negℤ (pos v))
+
+pub negated-fits : (v : ℕ) → v < 2147483648 → SFits w32 (negℤ (pos v))
+negated-fits zero h = record { sfits = omega arith }
+negated-fits (suc k) h = record { sfits = omega arith }
+
+-- ---- the sizes
+
+pub false-not : (b : Bool) → b ≡ false → b ≡ true → ⊥
+false-not b e h = false≢true (sym e ∙ h)
+
+pub power-is : {k x : ℕ} → k ≤ 4 → x ≡ 2 ^ min k 4 → x ≡ 2 ^ k
+power-is {k} h e = let i : min k 4 ≡ k = omega arith in e ∙ ap (λ j. 2 ^ j) i
+
+pub measured-is : {n m states sets propositions L M S : ℕ} → m ≤ 4 → sets ≤ 4 → propositions ≤ 4
+    → L ≡ 2 ^ min propositions 4 → M ≡ 2 ^ min m 4 → S ≡ 2 ^ min sets 4
+    → _≡_ {A = Sizes}
+    (record {
+      candidate = record { states = n; sets = m; subsets = M };
+      reference = record { states = states; sets = sets; subsets = S };
+      letters = L;
+      steps = n * n * L;
+      marks = n * n * L + n * n * L * m;
+    })
+    (measured n m states sets propositions)
+measured-is hm hs hp eL eM eS = rw (power-is hp eL, power-is hm eM, power-is hs eS)

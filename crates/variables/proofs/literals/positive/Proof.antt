@@ -1,0 +1,17 @@
+-- `positive` meets its contract.
+use mir.Syntax.{w32}
+use mir.ValLaws.{toZ-pos}
+use borrow.Author.Needs.{needs}
+use Rattle.variables.proofs.literals.positive.Statement.{statement}
+use Rattle.variables.proofs.literals.positive.Tie as tie
+
+cast-result : tie.Need-cast-result
+cast-result c = search needs
+
+returns : tie.Need-returns
+returns c = toZ-pos w32 (c .args .variable) (c .pre)
+
+pub positive-spec : {M : Type 1} → statement M
+positive-spec =
+    tie.close
+    (tie.spec cast-result returns)

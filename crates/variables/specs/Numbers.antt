@@ -1,0 +1,38 @@
+-- DEFINITIONS: the variables of a file of given sizes, and their numbers. They depend on the reference by its counts only.
+use mathlib.Core.Path.{_≡_}
+use mathlib.Core.Bool.{true, false}
+use Prim.Native.Nat.{ℕ, _≤_, _<_}
+use Rattle.meaning.specs.Automata.{Aut}
+use Rattle.encoding.specs.Variables.{Var, Present, base, base-number}
+use Rattle.variables.specs.declared.sizes.Sizes.{Sizes}
+use Rattle.variables.specs.Sizes.{Fitting}
+
+-- an automaton with the reference's counts
+abbrev pub counted : Sizes → Aut
+counted z = record {
+  states = z .reference .states;
+  letters = z .letters;
+  sets = z .reference .sets;
+  start = 0;
+  step = λ q l. 0;
+  marks = λ q l i. false;
+  accept = λ S. true;
+}
+
+-- there is such a variable
+abbrev pub InFile : Sizes → Var → Type 0
+InFile z x = Present (base (counted z) (z .candidate .states) (z .candidate .sets)) x
+
+abbrev pub numberOf : Sizes → Var → ℕ
+numberOf z = base-number (counted z) (z .candidate .states) (z .candidate .sets)
+
+-- k is the number of x, from 1 to the largest that any file has
+pub record Numbered (z : Sizes) (x : Var) (k : ℕ) : Type 0 where
+  pub is : k ≡ numberOf z x
+  pub some : 0 < k
+  pub small : k ≤ 4_199_424
+
+-- on all input: the number, or 0 where there is no such variable, or no file of these sizes
+pub record NumberIfAny (z : Sizes) (x : Var) (k : ℕ) : Type 0 where
+  pub there : Fitting z → InFile z x → k ≡ numberOf z x
+  pub none : ¬ (Fitting z × InFile z x) → k ≡ 0
