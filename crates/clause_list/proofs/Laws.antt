@@ -1,7 +1,7 @@
 -- Literals written one after another into a buffer.
 use mathlib.Core.Path.{_≡_, refl, sym, ap, _∙_, subst, subst₂}
 use mathlib.Core.Logic.{_≢_}
-use mathlib.Core.Bool.{Bool, true, false, cond}
+use mathlib.Core.Bool.{true, false}
 use mathlib.Core.List.{List, [], _∷_, _++_}
 use Prim.Native.Nat.{ℕ, zero, suc, _+_, _/_, _%_, _^_, _≤_, _<_}
 use native.Mathlib.Nat.{mul-one}
@@ -13,7 +13,7 @@ use lib.ListN.{length, set, length-set}
 use mir.Syntax.{w32}
 use mir.Val.{toZ, ofZ}
 use mir.ValLaws.{toZ-ofZ}
-use Rattle.meaning.specs.BitSet.{has, digit}
+use Rattle.meaning.specs.BitSet.{digit}
 use Rattle.encoding.specs.Variables.{mark}
 use Rattle.encoding.specs.Clauses.{each}
 use Rattle.encoding.specs.Loops.{each-length}

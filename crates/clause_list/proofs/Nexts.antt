@@ -1,6 +1,6 @@
 -- The search for the next clause, position by position.
-use mathlib.Core.Path.{_≡_, refl, sym, ap, _∙_, subst}
-use mathlib.Core.List.{List, []}
+use mathlib.Core.Path.{_≡_, refl, _∙_, subst}
+use mathlib.Core.List.{List}
 use Prim.Native.Nat.{ℕ, _+_, _≤_, _<_}
 use native.Mathlib.Omega.{arith}
 use lib.IntN.{ℤ}
@@ -10,7 +10,6 @@ use Rattle.decimal.specs.Wrote.{Wrote}
 use Rattle.variables.specs.declared.sizes.Sizes.{Sizes}
 use Rattle.variables.specs.Numbers.{numberOf}
 use Rattle.clause_list.specs.declared.position.Extent.{Extent}
-use Rattle.clause_list.specs.declared.next.Next.{Next}
 use Rattle.clause_list.specs.Tables.{taskOf}
 use Rattle.clause_list.specs.Position.{Stands, one, none, ExtentOf}
 use Rattle.clause_list.specs.Next.{next-clause}

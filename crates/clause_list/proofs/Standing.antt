@@ -1,18 +1,16 @@
 -- What stands at a position, group by group, and how many positions there are.
-use mathlib.Core.Path.{_≡_, refl, sym, ap, ap₂, _∙_, subst}
+use mathlib.Core.Path.{_≡_, refl, sym, ap, _∙_, subst}
 use mathlib.Core.Logic.{_≢_}
-use mathlib.Core.Bool.{Bool, true, false, cond, not, xor}
+use mathlib.Core.Bool.{Bool, true, false, not, xor}
 use mathlib.Core.List.{List, [], _∷_}
 use Prim.Native.Nat.{ℕ, _+_, _-_, _*_, _/_, _%_, _^_, _≤_, _<_}
-use native.Mathlib.Nat.{mul-one, mul-le-mul}
+use native.Mathlib.Nat.{mul-le-mul}
 use native.Mathlib.Omega.{arith}
 use borrow.Author.Tests.{lt-ltb, le-ltb, eq-eqb, ne-eqb}
-use lib.Dec.{eqb, ltb}
-use lib.IntN.{ℤ, pos}
+use lib.Dec.{eqb}
+use lib.IntN.{pos}
 use Rattle.encoding.specs.Variables.{step}
-use lib.ListN.{length, getD, length-append}
-use lib.Pow.{pow-mono, pow-pos}
-use Rattle.encoding.specs.Clauses.{only}
+use lib.ListN.{length}
 use Rattle.encoding.specs.Numbering.{split}
 use Rattle.encoding.specs.Loops.{then-at, each-length}
 use Rattle.encoding.specs.Positions.{at₂, at₃, at₄, at-position}
@@ -20,11 +18,12 @@ use Rattle.decimal.specs.Wrote.{Wrote}
 use Rattle.decimal.specs.Writing.{wrote-length}
 use Rattle.variables.specs.declared.sizes.Sizes.{Sizes}
 use Rattle.variables.specs.Sizes.{Fitting}
+use Rattle.variables.specs.Limits.{candidate-subsets-le, reference-subsets-le}
 use Rattle.variables.specs.Numbers.{numberOf}
 use Rattle.clause_list.specs.declared.position.Extent.{Extent}
 use Rattle.clause_list.specs.Tables.{taskOf, Tables}
-use Rattle.clause_list.specs.Groups.{totalityOf, initialOf, successorOf, premiseOf, extensionOf}
-use Rattle.clause_list.specs.Indices.{extensions, closures, successors}
+use Rattle.clause_list.specs.Groups.{totalityOf, initialOf}
+use Rattle.clause_list.specs.Indices.{extensions, closures}
 use Rattle.clause_list.specs.Position.{Stands, one, none, ExtentOf, successorAt, extensionAt, closureAt, oneFull, at₁-is, initial-is, successor-is, at₃-is, at₄-is}
 
 -- a clause that is written, and has a literal
@@ -126,9 +125,6 @@ module _ {z : Sizes} (f : Fitting z) where
   abbrev S : ℕ
   S = z .reference .subsets
 
-  subsets-le : {k x : ℕ} → k ≤ 4 → x ≡ 2 ^ k → x ≤ 16
-  subsets-le h e = omega (arith, e, pow-mono {j = 4} h)
-
   pub square-le : n * n ≤ 64
   square-le = mul-le-mul (f .n-le) (f .n-le)
 
@@ -139,10 +135,10 @@ module _ {z : Sizes} (f : Fitting z) where
   moves-le = mul-le-mul pairs-le (f .letters-le)
 
   pub two-le : M * S ≤ 256
-  two-le = mul-le-mul (subsets-le (f .m-le) (f .candidate-subsets)) (subsets-le (f .s-le) (f .reference-subsets))
+  two-le = mul-le-mul (candidate-subsets-le f) (reference-subsets-le f)
 
   pub markings-le : M * S * M ≤ 4096
-  markings-le = mul-le-mul two-le (subsets-le (f .m-le) (f .candidate-subsets))
+  markings-le = mul-le-mul two-le (candidate-subsets-le f)
 
   pub product-le : n * n * r * L * (M * S * M) ≤ 67108864
   product-le = mul-le-mul moves-le markings-le

@@ -1,6 +1,5 @@
 -- One clause of each group, by the sizes, the indices, and the reference's step w and marks F. That they are the clauses of the file is
 -- proved in `Position`.
-use mathlib.Core.Path.{_≡_}
 use mathlib.Core.Bool.{cond}
 use mathlib.Core.List.{List, [], _∷_, _++_}
 use Prim.Native.Nat.{ℕ, _^_, _<_}

@@ -1,7 +1,7 @@
 -- What the function that looks for the next clause leaves in the buffer and returns.
 use mathlib.Core.Path.{_≡_}
 use mathlib.Core.List.{List}
-use Prim.Native.Nat.{ℕ, _<_}
+use Prim.Native.Nat.{_<_}
 use lib.IntN.{ℤ}
 use Rattle.decimal.specs.Wrote.{Wrote}
 use Rattle.clause_list.specs.declared.next.Next.{Next}

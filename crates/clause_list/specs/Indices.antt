@@ -1,16 +1,14 @@
 -- The indices of a position, and that they lie in their ranges.
-use mathlib.Core.Path.{_≡_, refl, sym, ap, _∙_}
+use mathlib.Core.Path.{_≡_}
 use mathlib.Core.List.{List}
 use Prim.Native.Nat.{ℕ, _+_, _*_, _/_, _%_, _^_, _<_}
-use native.Mathlib.Omega.{arith}
 use lib.ListN.{getD}
 use Rattle.encoding.specs.Numbering.{split}
 use Rattle.variables.specs.declared.sizes.Sizes.{Sizes}
-use Rattle.variables.specs.Sizes.{Fitting}
 use Rattle.clause_list.specs.declared.groups.Indices.{Indices}
 use Rattle.clause_list.specs.declared.indices.Marking.{Marking}
 use Rattle.clause_list.specs.declared.indices.Transition.{Transition}
-use Rattle.clause_list.specs.Groups.{Within, Successive}
+use Rattle.clause_list.specs.Groups.{Within}
 use Rattle.clause_list.specs.Tables.{Tables}
 
 module _ (z : Sizes) where

@@ -1,27 +1,23 @@
 -- What stands at a position, by group, and that it is what stands there in the file.
-use mathlib.Core.Path.{_≡_, refl, sym, ap, ap₂, _∙_}
-use mathlib.Core.Bool.{Bool, true, false, cond, xor}
+use mathlib.Core.Path.{_≡_, refl, ap, _∙_}
+use mathlib.Core.Bool.{Bool, xor}
 use mathlib.Core.List.{List, [], _∷_}
 use Prim.Native.Nat.{ℕ, _+_, _-_, _*_, _/_, _%_, _^_, _≤_, _<_}
-use native.Mathlib.Omega.{arith}
-use borrow.Author.Tests.{lt-ltb, le-ltb}
-use lib.Dec.{eqb, ltb}
+use lib.Dec.{eqb}
 use lib.IntN.{ℤ}
-use lib.ListN.{length, getD}
+use lib.ListN.{getD}
 use Rattle.meaning.specs.Automata.{EverySet}
 use Rattle.encoding.specs.Variables.{Task}
-use Rattle.encoding.specs.Clauses.{_∪_, only, marks-of, totality, initial, successor, extension, closure, not-marks, exactly-one}
-use Rattle.encoding.specs.Loops.{then-at}
+use Rattle.encoding.specs.Clauses.{_∪_, only, marks-of, totality, initial, successor, extension, closure, not-marks}
 use Rattle.encoding.specs.MarkSets.{set-of-has}
 use Rattle.encoding.specs.Base.{exactly-one-full}
-use Rattle.encoding.specs.Positions.{at₁, at₂, successor-at, at₃, at₄, at-position, size₁, size₂, size₃, positions}
+use Rattle.encoding.specs.Positions.{at₁, successor-at, at₃, at₄}
 use Rattle.decimal.specs.Wrote.{Wrote}
 use Rattle.variables.specs.declared.sizes.Sizes.{Sizes}
-use Rattle.variables.specs.Sizes.{Fitting}
-use Rattle.variables.specs.Numbers.{counted, numberOf}
+use Rattle.variables.specs.Numbers.{numberOf}
 use Rattle.clause_list.specs.declared.position.Extent.{Extent}
 use Rattle.clause_list.specs.Tables.{tabled, taskOf, Tables}
-use Rattle.clause_list.specs.Groups.{Within, totalityOf, initialOf, successorOf, premiseOf, extensionOf}
+use Rattle.clause_list.specs.Groups.{totalityOf, initialOf, successorOf, premiseOf, extensionOf}
 use Rattle.clause_list.specs.Indices.{extensions, closures, successors, extensionIndices, closureIndices, extension-within, closure-within}
 
 -- the one clause of `cs` is written at the start of d, and r is its length; or `cs` is empty, nothing is written, and r is 0

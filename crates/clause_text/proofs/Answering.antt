@@ -1,15 +1,14 @@
 -- The answers of `line` and `lines`, case by case.
-use mathlib.Core.Path.{_≡_, refl, sym, ap₂, _∙_, subst, subst₂}
+use mathlib.Core.Path.{_≡_, refl, sym, _∙_, subst, subst₂}
 use mathlib.Core.Logic.{_≢_}
 use mathlib.Core.List.{List}
-use Prim.Native.Nat.{ℕ, _≤_}
+use Prim.Native.Nat.{ℕ}
 use native.Mathlib.Omega.{arith}
 use lib.ListN.{length}
 use Rattle.automaton.specs.declared.Automaton.{Automaton}
 use Rattle.automaton.specs.declared.refusal.Refusal.{Refusal}
 use Rattle.variables.specs.declared.sizes.Sizes.{Sizes}
 use Rattle.variables.specs.Numbers.{numberOf}
-use Rattle.decimal.specs.Writing.{wrote-length}
 use Rattle.clause_list.specs.Tables.{taskOf, Measured, measured-task, measured-number}
 use Rattle.clause_list.specs.Next.{next-clause}
 use Rattle.clauses.specs.declared.Answer.{Answer}

@@ -1,6 +1,6 @@
 -- The next line, and lines one after another.
-use mathlib.Core.Path.{_≡_, refl, sym, ap, ap₂, _∙_, subst}
-use mathlib.Core.Logic.{_≢_, _⊎_, inl, inr}
+use mathlib.Core.Path.{_≡_, refl, sym, ap, _∙_, subst}
+use mathlib.Core.Logic.{_≢_, inl, inr}
 use mathlib.Core.List.{List, [], _∷_, _++_, append-assoc, append-nil, cons≢nil}
 use Prim.Native.Nat.{ℕ, zero, suc, _+_, _≤_, _<_}
 use native.Mathlib.Nat.{not-suc-le-zero}
@@ -10,6 +10,7 @@ use borrow.Author.Count.{below-more}
 use lib.IntN.{ℤ}
 use lib.ListN.{length, take, drop, length-append, length-drop}
 use Rattle.encoding.specs.Variables.{Task, Var}
+use Rattle.encoding.specs.Positions.{positions}
 use Rattle.decimal.specs.Wrote.{Wrote}
 use Rattle.decimal.specs.Writing.{wrote-none, wrote-then, wrote-length}
 use Rattle.variables.specs.declared.sizes.Sizes.{Sizes}
@@ -17,7 +18,7 @@ use Rattle.variables.specs.Numbers.{numberOf}
 use Rattle.clause_list.specs.declared.next.Next.{Next}
 use Rattle.clause_list.specs.Tables.{taskOf, Tables}
 use Rattle.clause_list.specs.Next.{Found, handed, ended, next-clause, clauses-from}
-use Rattle.clause_list.specs.Following.{First, next-first}
+use Rattle.clause_list.specs.Following.{First, next-first, position-of, next-le}
 use Rattle.clause_list.specs.Handing as handing
 use Rattle.clause_list.specs.Handing.{Hands}
 use Rattle.clauses.specs.HandsOut.{wrote-front}
@@ -86,34 +87,42 @@ module _ (T : Task) (num : Var → ℕ) where
     there = omega arith;
     text = wrote-none d 0 (omega arith);
     next = refl;
+    within = λ bound h l. l;
     begun = λ i h. absurd (not-suc-le-zero h);
   }
 
 module _ {T : Task} {num : Var → ℕ} {x : ℕ} {d e : List ℕ} {k y : ℕ} (s : Lines T num x d e k y) where
-  pub lines-more : {b : List ℕ} {j v : ℕ} (c : List ℤ) → k + 80 ≤ length d → clauses-from T num y ≡ c ∷ clauses-from T num v → Wrote e k (lineText c) b j → Lines T num x d b j v
-  lines-more {b} {j} c room f w =
+  abbrev Within : ℕ → Type 0
+  Within v = (bound : ℕ) → positions T num ≤ bound → x ≤ bound → v ≤ bound
+
+  lines-more : {b : List ℕ} {j v : ℕ} (c : List ℤ) → k + 80 ≤ length d → clauses-from T num y ≡ c ∷ clauses-from T num v → Wrote e k (lineText c) b j → Within v → Lines T num x d b j v
+  lines-more {b} {j} c room f w i =
       let (p, q) = take-next (s .count) (clauses-from T num x) (sym (s .next) ∙ f) in
       record {
         count = s .count + 1;
         there = omega (arith, ap length (sym (s .next) ∙ f), length-drop (s .count) (clauses-from T num x));
         text = subst (λ t. Wrote d 0 t b j) (sym (lines-snoc (take (s .count) (clauses-from T num x)) c) ∙ ap linesText (sym p)) (wrote-then (s .text) w);
         next = sym q;
+        within = i;
         begun = below-more _ _ (s .begun) (omega (arith, s .text .next));
       }
 
   -- the same clauses follow from another position
-  pub lines-moved : (v : ℕ) → clauses-from T num v ≡ clauses-from T num y → Lines T num x d e k v
-  lines-moved v f = record { count = s .count; there = s .there; text = s .text; next = f ∙ s .next; begun = s .begun }
+  lines-moved : (v : ℕ) → clauses-from T num v ≡ clauses-from T num y → Within v → Lines T num x d e k v
+  lines-moved v f i = record { count = s .count; there = s .there; text = s .text; next = f ∙ s .next; within = i; begun = s .begun }
 
   first-here : {f : Found} → next-clause T num y ≡ f → First T num (clauses-from T num y) f
   first-here q = subst (First T num (clauses-from T num y)) q (next-first T num y)
+
+  within-here : {f : Found} → next-clause T num y ≡ f → Within (position-of T num f)
+  within-here q bound h l = subst (λ f. position-of T num f ≤ bound) q (next-le T num bound y h (s .within bound h l))
 
   module _ {b : List ℕ} {r : Filled} (l : LineNext (next-clause T num y) e k b r) where
     pub filling-more : k + 80 ≤ length d → r .end ≢ k → Lines T num x d b (r .end) (r .position)
     filling-more room n = go l
       where
         go : LineNext (next-clause T num y) e k b r → Lines T num x d b (r .end) (r .position)
-        go (written c q w) = lines-more c room (first-here q) w
+        go (written c q w) = lines-more c room (first-here q) w (within-here q)
         go (nothing q w h) = absurd (n h)
 
     pub filling-further : r .end ≢ k → k < r .end
@@ -130,7 +139,7 @@ module _ {T : Task} {num : Var → ℕ} {x : ℕ} {d e : List ℕ} {k y : ℕ} (
         go (written c q w) = absurd (omega (arith, w .next, line-some c))
         go (nothing q w h) =
             let (now-none, then-none) = first-here q in
-            record { lines = subst (λ o. Lines T num x d o k (r .position)) (sym w) (lines-moved (r .position) (then-none ∙ sym now-none)); stop = inl then-none }
+            record { lines = subst (λ o. Lines T num x d o k (r .position)) (sym w) (lines-moved (r .position) (then-none ∙ sym now-none) (within-here q)); stop = inl then-none }
 
   pub filling-full : length d < k + 80 → Filling T num x d e k y
   filling-full h = record { lines = s; stop = inr h }

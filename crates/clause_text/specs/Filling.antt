@@ -5,6 +5,7 @@ use mathlib.Core.List.{List, []}
 use Prim.Native.Nat.{ℕ, _+_, _≤_, _<_}
 use lib.ListN.{length, take, drop}
 use Rattle.encoding.specs.Variables.{Task, Var}
+use Rattle.encoding.specs.Positions.{positions}
 use Rattle.decimal.specs.Wrote.{Wrote}
 use Rattle.clause_list.specs.Next.{clauses-from}
 use Rattle.clause_text.specs.Text.{linesText}
@@ -17,6 +18,8 @@ pub record Lines (T : Task) (num : Var → ℕ) (x : ℕ) (d e : List ℕ) (k y 
   pub there : count ≤ length (clauses-from T num x)
   pub text : Wrote d 0 (linesText (take count (clauses-from T num x))) e k
   pub next : clauses-from T num y ≡ drop count (clauses-from T num x)
+  -- y lies in every range that x and all positions of the file lie in
+  pub within : (bound : ℕ) → positions T num ≤ bound → x ≤ bound → y ≤ bound
   pub begun : (i : ℕ) → i < count → length (linesText (take i (clauses-from T num x))) + 80 ≤ length d
 
 -- as many as fit: no clause is left, or there are not 80 bytes for one more

@@ -3,3 +3,5 @@ pub mod LineLength
 pub mod Filling
 pub mod Answers
 pub mod LineNext
+pub mod Batches
+pub mod LinesOut

@@ -1,7 +1,7 @@
 -- 80 BYTES SUFFICE for a line: a clause has at most 8 literals, and a literal at most 7 digits and a minus.
-use mathlib.Core.Path.{_≡_, refl, sym, ap, _∙_, subst}
+use mathlib.Core.Path.{_≡_, refl, ap, _∙_}
 use mathlib.Core.Logic.{⊎-elim}
-use mathlib.Core.List.{List, [], _∷_, _++_, List·Memᴰ, List·Memᴰ·head, List·Memᴰ·tail}
+use mathlib.Core.List.{List, [], _∷_, List·Memᴰ, List·Memᴰ·head, List·Memᴰ·tail}
 use Prim.Native.Nat.{ℕ, zero, suc, _+_, _*_, _^_, _≤_, _<_}
 use native.Mathlib.Nat.{mul-one, mul-le-mul}
 use native.Mathlib.Omega.{arith}
@@ -16,7 +16,6 @@ use Rattle.encoding.specs.Loops.{each-length}
 use Rattle.encoding.specs.Membership.{Listed, a-totality, the-initial, a-successor, an-extension, a-closure, listed}
 use Rattle.encoding.specs.Literals.{IsLiteral, literals}
 use Rattle.encoding.specs.Base.{base-numbering, base-well-posed}
-use Rattle.decimal.specs.Decimal.{decimal}
 use Rattle.decimal.specs.Digits.{decimal-at-most}
 use Rattle.variables.specs.declared.sizes.Sizes.{Sizes}
 use Rattle.variables.specs.Numbers.{numberOf}

@@ -1,5 +1,4 @@
 // The clause file as text: one line a call, or as many lines as a buffer holds.
-use crate::batch::Filled;
 use crate::batch::fill;
 use crate::batch::next_line;
 use automaton::Automaton;

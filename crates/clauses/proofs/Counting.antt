@@ -1,31 +1,28 @@
 -- The counts of the header.
-use mathlib.Core.Path.{_≡_, refl, sym, ap, ap₂, _∙_, subst}
+use mathlib.Core.Path.{_≡_, refl, sym, ap, ap₂, _∙_}
 use mathlib.Core.Logic.{_≢_}
-use mathlib.Core.Bool.{Bool, cond}
-use mathlib.Core.List.{List}
 use Prim.Native.Nat.{ℕ, zero, suc, _+_, _-_, _*_, _/_, _%_, _^_, _≤_, _<_}
-use native.Mathlib.Nat.{mul-le-mul, mod-lt}
+use native.Mathlib.Nat.{mul-le-mul}
 use native.Mathlib.Numerals.{add-one}
 use native.Mathlib.Omega.{arith}
 use borrow.Author.Tests.{eq-eqb, ne-eqb}
-use lib.Dec.{eqb}
-use lib.Pow.{pow-mono}
-use lib.ListN.{length, getD}
+use lib.ListN.{length}
 use Rattle.automaton.specs.declared.Automaton.{Automaton}
 use Rattle.automaton.specs.Value.{Valid}
 use Rattle.automaton.specs.View.{view}
-use Rattle.encoding.specs.Variables.{base, base-number, base-variables}
-use Rattle.encoding.specs.Clauses.{group₄, base-file}
+use Rattle.encoding.specs.Variables.{base-variables}
+use Rattle.encoding.specs.Clauses.{base-file}
 use Rattle.encoding.specs.Loops.{total}
 use Rattle.encoding.specs.Base.{base-length}
 use Rattle.encoding.specs.Numbering.{split}
 use Rattle.variables.specs.declared.sizes.Sizes.{Sizes}
 use Rattle.variables.specs.Sizes.{Dimensioned, Fitting}
-use Rattle.variables.specs.Numbers.{numberOf, counted}
+use Rattle.variables.specs.Limits.{candidate-subsets-le, reference-subsets-le}
+use Rattle.variables.specs.Numbers.{counted}
 use Rattle.clause_list.specs.declared.position.Extent.{Extent}
 use Rattle.clause_list.specs.Tables.{Measured, tabled, measured-tables}
 use Rattle.clause_list.specs.Position.{ExtentOf}
-use Rattle.clauses.specs.ClosureCount.{pairsFor, closuresBy, closureCount, closure-length}
+use Rattle.clauses.specs.ClosureCount.{pairsFor, closureCount, closure-length}
 use Rattle.clauses.specs.declared.header.Totals.{Totals}
 use Rattle.clauses.specs.declared.header.Totals.the-variants.{Of, Refused}
 use Rattle.clauses.specs.Header.{HeaderTotals, Headed, lastVariable}
@@ -51,17 +48,8 @@ three-le (suc (suc (suc (suc zero)))) h = omega arith
 three-le (suc (suc (suc (suc (suc m))))) h = absurd (omega arith)
 
 module _ {z : Sizes} (f : Fitting z) where
-  subsets-le : {k x : ℕ} → k ≤ 4 → x ≡ 2 ^ k → x ≤ 16
-  subsets-le h e = omega (arith, e, pow-mono {j = 4} h)
-
-  pub own-le : z .candidate .subsets ≤ 16
-  own-le = subsets-le (f .m-le) (f .candidate-subsets)
-
-  pub other-le : z .reference .subsets ≤ 16
-  other-le = subsets-le (f .s-le) (f .reference-subsets)
-
   pub pairs-le : z .candidate .subsets * z .candidate .subsets ≤ 256
-  pairs-le = mul-le-mul own-le own-le
+  pairs-le = mul-le-mul (candidate-subsets-le f) (candidate-subsets-le f)
 
   pub full-le : {p : ℕ} → p ≡ 3 ^ z .candidate .sets → p ≤ z .candidate .subsets * z .candidate .subsets
   full-le e = rw (e, f .candidate-subsets) (three-le (z .candidate .sets) (f .m-le))
@@ -92,16 +80,10 @@ module _ {z : Sizes} (f : Fitting z) where
   states-square-le = mul-le-mul states-le states-le
 
   pub markings-le : z .candidate .subsets * z .reference .subsets ≤ 256
-  markings-le = mul-le-mul own-le other-le
+  markings-le = mul-le-mul (candidate-subsets-le f) (reference-subsets-le f)
 
   pub paths-le : z .candidate .states * z .reference .states * (z .candidate .states * z .reference .states) * (z .candidate .subsets * z .reference .subsets) ≤ 4194304
   paths-le = mul-le-mul states-square-le markings-le
-
-  square-le : z .candidate .states * z .candidate .states * z .letters ≤ 1024
-  square-le = mul-le-mul (mul-le-mul (f .n-le) (f .n-le)) (f .letters-le)
-
-  pub marks-le : z .marks ≤ 5120
-  marks-le = omega (arith, f .marks-is, f .steps-is, square-le, mul-le-mul square-le (f .m-le))
 
   pub last-variable-is : z .marks
       + z .candidate .states * z .reference .states * (z .candidate .states * z .reference .states) * (z .candidate .subsets * z .reference .subsets) ≡ lastVariable z

@@ -1,20 +1,18 @@
 -- HOW MANY CLAUSES group 4 has: for each q and p, a sum over the reference's transitions and the sets J, in which the pairs I, K are counted.
-use mathlib.Core.Path.{_≡_, refl, sym, ap, ap₂, _∙_}
-use mathlib.Core.Bool.{Bool, true, cond, xor}
+use mathlib.Core.Path.{_≡_, refl, ap, _∙_}
+use mathlib.Core.Bool.{cond, xor}
 use mathlib.Core.List.{List}
 use Prim.Native.Nat.{ℕ, zero, suc, _+_, _-_, _*_, _/_, _%_, _^_, _≤_, _<_}
 use native.Mathlib.Omega.{arith}
 use lib.Dec.{eqb}
 use lib.ListN.{length, getD}
 use Rattle.meaning.specs.Automata.{EverySet}
-use Rattle.encoding.specs.Variables.{Task, base, base-number}
-use Rattle.encoding.specs.Clauses.{bit, _∪_, exactly-one, group₄, marks-of}
+use Rattle.encoding.specs.Clauses.{bit, _∪_, exactly-one, group₄}
 use Rattle.encoding.specs.Loops.{total}
 use Rattle.encoding.specs.MarkSets.{set-of-has}
 use Rattle.encoding.specs.Counts.{length₄}
 use Rattle.encoding.specs.Base.{exactly-one-full}
 use Rattle.variables.specs.declared.sizes.Sizes.{Sizes}
-use Rattle.variables.specs.Sizes.{Fitting}
 use Rattle.variables.specs.Numbers.{numberOf}
 use Rattle.clause_list.specs.Tables.{tabled, taskOf, Tables}
 use Rattle.clauses.specs.Sums.{total-same, total-swap, total-total, passing, passing-xor}

@@ -13,20 +13,18 @@ use Rattle.automaton.specs.declared.refusal.Refusal.{Refusal}
 use Rattle.automaton.specs.Value.{Valid}
 use Rattle.automaton.specs.View.{view}
 use Rattle.encoding.specs.Variables.{Task, Var, base, base-number}
-use Rattle.encoding.specs.Clauses.{base-file}
 use Rattle.decimal.specs.Wrote.{Wrote}
 use Rattle.variables.specs.Sizes.{Dimensioned}
 use Rattle.clause_list.specs.Next.{Found, clauses-from}
 use Rattle.clause_list.specs.Following.{First, next-first, from-start, position-of}
 use Rattle.clauses.specs.declared.Answer.{Answer}
 use Rattle.clauses.specs.declared.Answer.the-variants.{Written, Ended, Refused}
-use Rattle.clauses.specs.declared.Handed.{Handed}
-use Rattle.clauses.specs.Step.{TurnedDown, short, outside, dimensions, StepAnswers, found-from, last-position}
+use Rattle.clauses.specs.Step.{short, outside, dimensions, StepAnswers, found-from, last-position}
 use Rattle.clauses.specs.Range.{stays-in-range}
 use Rattle.clauses.specs.Calls.{Call, Calls, said, all-said, in-order, HandsOut}
 
 -- what was written at the start of a buffer is read there
-pub wrote-front : {d c e : List ℤ} {k : ℕ} → Wrote d 0 c e k → take k e ≡ c
+pub wrote-front : {A : Type 0} {d c e : List A} {k : ℕ} → Wrote d 0 c e k → take k e ≡ c
 wrote-front {d} {c} {k} w = ap (take k) (w .is) ∙ take-at c (drop k d) k (omega (arith, w .next))
 
 module _ (a : Automaton) (n m : ℕ) where

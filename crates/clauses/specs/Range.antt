@@ -8,7 +8,7 @@ use lib.Pow.{pow-mono}
 use Rattle.automaton.specs.declared.Automaton.{Automaton}
 use Rattle.automaton.specs.Value.{Valid}
 use Rattle.automaton.specs.View.{view}
-use Rattle.encoding.specs.Variables.{Task, base, base-number}
+use Rattle.encoding.specs.Variables.{base, base-number}
 use Rattle.encoding.specs.Positions.{positions}
 use Rattle.variables.specs.Sizes.{Dimensioned}
 use Rattle.clause_list.specs.Following.{position-of, next-le}

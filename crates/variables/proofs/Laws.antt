@@ -5,7 +5,6 @@ use Prim.Native.Nat.{ℕ, zero, suc, _+_, _*_, _^_, _≤_, _<_, min}
 use native.Mathlib.Nat.{mul-le-mul}
 use native.Mathlib.Omega.{arith}
 use lib.Arith.{digits-lt}
-use lib.Pow.{pow-mono}
 use lib.IntN.{pos, negℤ, _-ℤ_, +ℤ-idl}
 use mir.Syntax.{w32}
 use mir.Val.{SFits, toZ}
@@ -13,14 +12,12 @@ use mir.ValLaws.{toZ-pos}
 use Rattle.encoding.specs.Variables.{step, mark, path}
 use Rattle.variables.specs.declared.sizes.Sizes.{Sizes}
 use Rattle.variables.specs.Sizes.{Fitting, measured}
+use Rattle.variables.specs.Limits.{candidate-subsets-le, reference-subsets-le}
 use Rattle.variables.specs.Numbers.{InFile, numberOf}
 
 -- one more digit below its base, after a number below a bound
 digit-lt : {a b base : ℕ} (c d : ℕ) → a < c → b < base → base ≤ d → a * base + b < c * d
 digit-lt c d h k l = omega (arith, digits-lt h k, mul-le-mul {n₁ = c} {n₂ = c} (omega arith) l)
-
-pub square-le : {n L : ℕ} → n ≤ 8 → L ≤ 16 → n * n * L ≤ 1024
-square-le hn hL = mul-le-mul (mul-le-mul hn hn) hL
 
 module _ {z : Sizes} (f : Fitting z) where
   pub row-lt : {q l : ℕ} → q < z .candidate .states → l < z .letters → q * z .letters + l < 128
@@ -35,15 +32,6 @@ module _ {z : Sizes} (f : Fitting z) where
   pub mark-lt : {q l i p : ℕ} → InFile z (mark q l i p) → ((q * z .letters + l) * z .candidate .sets + i) * z .candidate .states + p < 4096
   mark-lt h = digit-lt 512 8 (mark-row-lt h) (h .3) (f .n-le)
 
-  pub steps-le : z .steps ≤ 1024
-  steps-le = omega (arith, f .steps-is, square-le (f .n-le) (f .letters-le))
-
-  pub marks-le : z .marks ≤ 5120
-  marks-le = omega (arith, f .marks-is, steps-le, mul-le-mul (square-le (f .n-le) (f .letters-le)) (f .m-le))
-
-  subset-le : {k x : ℕ} → k ≤ 4 → x ≡ 2 ^ k → x ≤ 16
-  subset-le h e = omega (arith, e, pow-mono {j = 4} h)
-
   pub record PathBounds (q u p v I J : ℕ) : Type 0 where
     pub one : q * z .reference .states + u < 128
     pub two : (q * z .reference .states + u) * z .candidate .states + p < 1024
@@ -56,8 +44,8 @@ module _ {z : Sizes} (f : Fitting z) where
       let h₁ = digit-lt {a = q} {b = u} 8 16 (omega (arith, f .n-le)) hu (f .r-le) in
       let h₂ = digit-lt 128 8 h₁ hp (f .n-le) in
       let h₃ = digit-lt 1024 16 h₂ hv (f .r-le) in
-      let h₄ = digit-lt {b = I} 16384 16 h₃ (omega (arith, f .candidate-subsets)) (subset-le (f .m-le) (f .candidate-subsets)) in
-      record { one = h₁; two = h₂; three = h₃; four = h₄; five = digit-lt {b = J} 262144 16 h₄ (omega (arith, f .reference-subsets)) (subset-le (f .s-le) (f .reference-subsets)) }
+      let h₄ = digit-lt {b = I} 16384 16 h₃ (omega (arith, f .candidate-subsets)) (candidate-subsets-le f) in
+      record { one = h₁; two = h₂; three = h₃; four = h₄; five = digit-lt {b = J} 262144 16 h₄ (omega (arith, f .reference-subsets)) (reference-subsets-le f) }
 
   pub mark-is : (q l i p : ℕ)
       → z .steps + (1 + (((q * z .letters + l) * z .candidate .sets + i) * z .candidate .states + p)) ≡ numberOf z (mark q l i p)

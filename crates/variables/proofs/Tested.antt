@@ -1,7 +1,7 @@
 -- The tests of sizes and of indices: each passes if and only if what it tests holds.
-use mathlib.Core.Path.{_≡_, refl, sym, ap, _∙_, subst}
+use mathlib.Core.Path.{_≡_, refl, sym, ap, _∙_}
 use mathlib.Core.Logic.{_↔_}
-use mathlib.Core.Bool.{Bool, true, false, _&&_, false≢true}
+use mathlib.Core.Bool.{Bool, true, _&&_}
 use Prim.Native.Nat.{ℕ, _+_, _*_, _^_, _≤_, _<_, min}
 use native.Mathlib.Omega.{arith}
 use borrow.Author.Tests.{lt-ltb, ltb-true, le-leb, leb-true, eq-eqb, eqb-true}
@@ -11,7 +11,7 @@ use Rattle.encoding.specs.Variables.{Var, step, mark, path}
 use Rattle.variables.specs.declared.sizes.Counts.{Counts}
 use Rattle.variables.specs.declared.sizes.Sizes.{Sizes}
 use Rattle.variables.specs.Sizes.{Fitting, Counting}
-use Rattle.variables.specs.Numbers.{InFile, numberOf, Numbered, NumberIfAny}
+use Rattle.variables.specs.Numbers.{InFile, Numbered, NumberIfAny}
 use Rattle.variables.proofs.Laws.{power-is}
 
 -- ---- several tests at once

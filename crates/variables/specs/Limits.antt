@@ -1,12 +1,14 @@
--- A reference in "The automaton" with n and m in their limits has sizes that fit, and their numbers are those of its file.
+-- A reference in "The automaton" with n and m in their limits has sizes that fit, and their numbers are those of its file; bounds of sizes.
 use mathlib.Core.Path.{_≡_, refl}
 use native.Mathlib.Omega.{arith}
 use lib.Pow.{pow-mono, pow-pos}
-use Prim.Native.Nat.{ℕ}
+use Prim.Native.Nat.{ℕ, _*_, _^_, _≤_}
+use native.Mathlib.Nat.{mul-le-mul}
 use Rattle.automaton.specs.declared.Automaton.{Automaton}
 use Rattle.automaton.specs.Value.{Valid}
 use Rattle.automaton.specs.View.{view}
 use Rattle.encoding.specs.Variables.{base-number}
+use Rattle.variables.specs.declared.sizes.Sizes.{Sizes}
 use Rattle.variables.specs.Sizes.{Dimensioned, Fitting, sizesOf}
 use Rattle.variables.specs.Numbers.{numberOf}
 
@@ -25,6 +27,29 @@ sizes-fit {a} v d = record {
   steps-is = refl;
   marks-is = refl;
 }
+
+-- ---- bounds
+
+pub square-le : {n L : ℕ} → n ≤ 8 → L ≤ 16 → n * n * L ≤ 1024
+square-le hn hL = mul-le-mul (mul-le-mul hn hn) hL
+
+module _ {z : Sizes} (f : Fitting z) where
+  subsets-le : {k x : ℕ} → k ≤ 4 → x ≡ 2 ^ k → x ≤ 16
+  subsets-le h e = omega (arith, e, pow-mono {j = 4} h)
+
+  pub candidate-subsets-le : z .candidate .subsets ≤ 16
+  candidate-subsets-le = subsets-le (f .m-le) (f .candidate-subsets)
+
+  pub reference-subsets-le : z .reference .subsets ≤ 16
+  reference-subsets-le = subsets-le (f .s-le) (f .reference-subsets)
+
+  pub steps-le : z .steps ≤ 1024
+  steps-le = omega (arith, f .steps-is, square-le (f .n-le) (f .letters-le))
+
+  pub marks-le : z .marks ≤ 5120
+  marks-le = omega (arith, f .marks-is, steps-le, mul-le-mul (square-le (f .n-le) (f .letters-le)) (f .m-le))
+
+-- ---- the file of a reference
 
 pub file-numbers : (a : Automaton) (n m : ℕ) → numberOf (sizesOf a n m) ≡ base-number (view a) n m
 file-numbers a n m = refl

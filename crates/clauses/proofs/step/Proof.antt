@@ -1,6 +1,5 @@
 -- `step` meets its contract: refusals in document 01's order, then what is found.
-use mathlib.Core.Path.{sym, _∙_, subst}
-use Rattle.variables.specs.declared.sizes.Sizes.{Sizes}
+use mathlib.Core.Path.{subst}
 use Rattle.clauses.specs.Step.{short, outside, StepFound}
 use Rattle.clauses.specs.Shared.{refused-sizes, sizing-of, sizing-refused, measured-of}
 use Rattle.clauses.proofs.Laws.{refused, stepped}

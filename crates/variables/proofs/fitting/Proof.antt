@@ -2,7 +2,8 @@
 use mathlib.Core.Bool.{false≢true}
 use native.Mathlib.Nat.{mul-le-mul}
 use borrow.Author.Tests.{not-true, not-false}
-use Rattle.variables.proofs.Laws.{false-not, square-le}
+use Rattle.variables.specs.Limits.{square-le}
+use Rattle.variables.proofs.Laws.{false-not}
 use Rattle.variables.proofs.Tested.{fitting-candidate, fitting-reference, letters-test, fitting-test}
 use borrow.Author.Needs.{needs}
 use native.Mathlib.Omega.{arith}

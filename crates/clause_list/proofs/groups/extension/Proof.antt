@@ -3,7 +3,7 @@ use mathlib.Core.Path.{refl, ap, _∙_}
 use lib.IntN.{pos}
 use lib.Bits.{or-lt}
 use lib.ListN.{length-set}
-use Rattle.decimal.specs.Writing.{wrote-length, wrote-one, wrote-then}
+use Rattle.decimal.specs.Writing.{wrote-length}
 use Rattle.clause_list.proofs.Laws.{stored, wrote-after, premise-short, premise-eight}
 use native.Mathlib.Omega.{arith}
 use Rattle.clause_list.proofs.groups.extension.Statement.{statement}

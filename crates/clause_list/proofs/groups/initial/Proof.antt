@@ -1,5 +1,5 @@
 -- `initial` meets its contract.
-use mathlib.Core.Path.{refl, ap, _∙_, subst}
+use mathlib.Core.Path.{refl, ap, _∙_}
 use lib.IntN.{pos}
 use lib.Pow.{pow-pos}
 use lib.ListN.{length-set}

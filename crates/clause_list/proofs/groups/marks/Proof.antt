@@ -1,7 +1,6 @@
 -- `marks` meets its contract. The invariant: the marks of the first i sets stand after the first two places.
-use Prim.Native.Nat.{ℕ, _+_, _-_, _≤_}
+use Prim.Native.Nat.{_+_, _-_, _≤_}
 use mathlib.Core.Path.{_≡_, _∙_, subst}
-use lib.IntN.{ℤ}
 use Rattle.decimal.specs.Wrote.{Wrote}
 use Rattle.decimal.specs.Writing.{wrote-length}
 use Rattle.clause_list.specs.Groups.{marksOf}

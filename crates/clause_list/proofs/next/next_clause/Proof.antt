@@ -1,6 +1,6 @@
 -- `next_clause` meets its contract. The invariant: nothing is written yet, and what comes next from x on comes next from the beginning.
-use mathlib.Core.Path.{_≡_, ap, _∙_}
-use Prim.Native.Nat.{ℕ, _-_}
+use mathlib.Core.Path.{ap, _∙_}
+use Prim.Native.Nat.{_-_}
 use lib.ListN.{length}
 use Rattle.clause_list.proofs.Standing.{stands-length}
 use Rattle.clause_list.proofs.Nexts.{Waiting, waiting-start, waiting-more, waiting-here, waiting-end}

@@ -1,6 +1,5 @@
 -- `clause_at` meets its contract: it goes to the group that the position lies in.
 use mathlib.Core.Path.{refl}
-use Rattle.encoding.specs.Numbering.{split}
 use Rattle.decimal.specs.Writing.{wrote-length}
 use Rattle.clause_list.specs.Position.{stands-same}
 use Rattle.clause_list.proofs.Standing.{stands, stands-length, totality-some, at-first, at-initial, at-successor, at-extension, at-closure, first-place}

@@ -1,6 +1,5 @@
 -- `closure_at` meets its contract.
-use mathlib.Core.Path.{_≡_, refl, sym, _∙_, subst}
-use mathlib.Core.Bool.{true, false}
+use mathlib.Core.Path.{sym, _∙_, subst}
 use borrow.Author.Tests.{not-true, not-false}
 use Rattle.decimal.specs.Writing.{wrote-length}
 use Rattle.clause_list.specs.Groups.{Within}

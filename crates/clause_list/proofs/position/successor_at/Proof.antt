@@ -1,5 +1,4 @@
 -- `successor_at` meets its contract.
-use mathlib.Core.Path.{_∙_}
 use Rattle.decimal.specs.Writing.{wrote-length}
 use Rattle.clause_list.proofs.Places.{transition-lt, successive, successor-written}
 use native.Mathlib.Omega.{arith}

@@ -1,6 +1,6 @@
 -- `fill` meets its contract. The invariant: so many lines are written, and the next clause is looked for at x.
 use mathlib.Core.Path.{_∙_}
-use Prim.Native.Nat.{ℕ, _-_}
+use Prim.Native.Nat.{_-_}
 use lib.ListN.{length}
 use Rattle.decimal.specs.Writing.{wrote-length}
 use Rattle.variables.specs.Numbers.{numberOf}

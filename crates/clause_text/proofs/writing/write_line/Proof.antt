@@ -1,9 +1,9 @@
 -- `write_line` meets its contract. The invariant: what is written and the line's text from literal i on make up the line.
-use mathlib.Core.Path.{_≡_, refl, sym, ap, _∙_, subst}
-use mathlib.Core.List.{List, [], _∷_, _++_}
-use Prim.Native.Nat.{ℕ, _+_, _-_, _≤_}
-use lib.IntN.{ℤ, pos}
-use lib.ListN.{length, getD, take, drop, length-set, length-append}
+use mathlib.Core.Path.{subst}
+use mathlib.Core.List.{[], _∷_}
+use Prim.Native.Nat.{_+_, _-_, _≤_}
+use lib.IntN.{pos}
+use lib.ListN.{getD, take, drop, length-set, length-append}
 use Rattle.decimal.specs.Wrote.{Wrote}
 use Rattle.decimal.specs.Writing.{wrote-length}
 use Rattle.clause_text.specs.Text.{literalText, lineText}

@@ -1,6 +1,6 @@
 -- `closure_count` meets its contract. The invariant: the sum over the first y transitions.
 use mathlib.Core.Path.{_≡_, ap, _∙_}
-use Prim.Native.Nat.{ℕ, _+_, _*_, _/_, _%_, _-_, _≤_}
+use Prim.Native.Nat.{_+_, _*_, _/_, _%_, _-_, _≤_}
 use lib.ListN.{getD}
 use Rattle.encoding.specs.Loops.{total}
 use Rattle.clauses.specs.ClosureCount.{closuresBy}

@@ -1,10 +1,11 @@
 -- `closures_by` meets its contract. The invariant: the sum over the first j sets.
-use mathlib.Core.Path.{_≡_, ap, _∙_, subst}
-use Prim.Native.Nat.{ℕ, _*_, _-_, _^_, _≤_}
+use mathlib.Core.Path.{_≡_, ap, _∙_}
+use Prim.Native.Nat.{_*_, _-_, _^_, _≤_}
 use Rattle.encoding.specs.Clauses.{_∪_}
 use Rattle.encoding.specs.Loops.{total}
 use Rattle.clauses.specs.ClosureCount.{pairsFor}
-use Rattle.clauses.proofs.Counting.{other-le, total-none, total-more}
+use Rattle.variables.specs.Limits.{reference-subsets-le}
+use Rattle.clauses.proofs.Counting.{total-none, total-more}
 use native.Mathlib.Omega.{arith}
 use Rattle.clauses.proofs.header.closures_by.Statement.{statement}
 use Rattle.clauses.proofs.header.closures_by.Tie as tie
@@ -22,10 +23,10 @@ pairs-for-requires : tie.Need-pairs-for-requires Inv-loop μ-loop
 pairs-for-requires c κs = c .before .before .before .pre
 
 add-count : tie.Need-add-count Inv-loop μ-loop
-add-count c = omega (arith, other-le (c .before .before .before .before .pre), c .pairs-for .ensures .1)
+add-count c = omega (arith, reference-subsets-le (c .before .before .before .before .pre), c .pairs-for .ensures .1)
 
 add-j : tie.Need-add-j Inv-loop μ-loop
-add-j c = omega (arith, other-le (c .before .before .before .before .pre))
+add-j c = omega (arith, reference-subsets-le (c .before .before .before .before .pre))
 
 loop-less : tie.Need-loop-less Inv-loop μ-loop
 loop-less c = omega arith
@@ -35,7 +36,7 @@ loop-again c = (omega arith, total-more _ _ (c .before .before .before .loop .in
 
 returns : tie.Need-returns Inv-loop μ-loop
 returns c = let e : c .before .before .loop .j ≡ 2 ^ c .before .before .before .args .z .reference .sets = omega (arith, c .before .before .before .pre .reference-subsets) in
-    (c .before .before .loop .inv .1 ∙ ap (λ k. total k (λ i. pairsFor (c .before .before .before .args .z) (i ∪ c .before .before .before .args .f))) e, omega (arith, other-le (c .before .before .before .pre)))
+    (c .before .before .loop .inv .1 ∙ ap (λ k. total k (λ i. pairsFor (c .before .before .before .args .z) (i ∪ c .before .before .before .args .f))) e, omega (arith, reference-subsets-le (c .before .before .before .pre)))
 
 pub closures-by-spec : {M : Type 1} → statement M
 closures-by-spec =

@@ -1,5 +1,6 @@
 -- `last_variable` meets its contract.
-use Rattle.clauses.proofs.Counting.{states-le, states-square-le, markings-le, paths-le, marks-le, last-variable-is}
+use Rattle.variables.specs.Limits.{marks-le}
+use Rattle.clauses.proofs.Counting.{states-le, states-square-le, markings-le, paths-le, last-variable-is}
 use native.Mathlib.Omega.{arith}
 use Rattle.clauses.proofs.header.last_variable.Statement.{statement}
 use Rattle.clauses.proofs.header.last_variable.Tie as tie

@@ -1,6 +1,6 @@
 -- `pairs_for` meets its contract.
 use lib.Pow.{pow-pos}
-use Rattle.clauses.proofs.Counting.{own-le, pairs-le, full-le, pairs-other, pairs-full}
+use Rattle.clauses.proofs.Counting.{pairs-le, full-le, pairs-other, pairs-full}
 use native.Mathlib.Omega.{arith}
 use Rattle.clauses.proofs.header.pairs_for.Statement.{statement}
 use Rattle.clauses.proofs.header.pairs_for.Tie as tie

@@ -1,5 +1,6 @@
 -- `mark_number` meets its contract: each digit keeps the number below the product of the bounds.
-use Rattle.variables.proofs.Laws.{row-lt, mark-row-lt, mark-lt, mark-is, steps-le}
+use Rattle.variables.specs.Limits.{steps-le}
+use Rattle.variables.proofs.Laws.{row-lt, mark-row-lt, mark-lt, mark-is}
 use native.Mathlib.Omega.{arith}
 use Rattle.variables.proofs.numbers.mark_number.Statement.{statement}
 use Rattle.variables.proofs.numbers.mark_number.Tie as tie

@@ -1,5 +1,6 @@
 -- `path_number` meets its contract: each digit keeps the number below the product of the bounds.
-use Rattle.variables.proofs.Laws.{path-lt, path-is, marks-le}
+use Rattle.variables.specs.Limits.{marks-le}
+use Rattle.variables.proofs.Laws.{path-lt, path-is}
 use native.Mathlib.Omega.{arith}
 use Rattle.variables.proofs.numbers.path_number.Statement.{statement}
 use Rattle.variables.proofs.numbers.path_number.Tie as tie

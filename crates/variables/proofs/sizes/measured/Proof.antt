@@ -1,7 +1,7 @@
 -- `measured` meets its contract.
-use mathlib.Core.Path.{_∙_}
 use native.Mathlib.Nat.{mul-le-mul}
-use Rattle.variables.proofs.Laws.{square-le, measured-is}
+use Rattle.variables.specs.Limits.{square-le}
+use Rattle.variables.proofs.Laws.{measured-is}
 use borrow.Author.Needs.{needs}
 use native.Mathlib.Omega.{arith}
 use Rattle.variables.proofs.sizes.measured.Statement.{statement}
