@@ -6,11 +6,10 @@ use mathlib.Core.Bool.{Bool, true, false, _||_, true≢false}
 use Prim.Native.Nat.{ℕ, _+_, _*_, _/_, _%_, _^_, _≤_, _<_}
 use native.Mathlib.Decide.{decLt}
 use native.Mathlib.Omega.{arith}
-use lib.Bits.{or-lt}
 use lib.ListN.{getD}
 use lib.Pow.{pow-mono}
 use Rattle.meaning.specs.Tests.{all, all-same}
-use Rattle.meaning.specs.BitSet.{has, has-or, has-zero}
+use Rattle.meaning.specs.BitSet.{has}
 use Rattle.meaning.specs.Walk.{run}
 use Rattle.meaning.specs.Automata.{Aut}
 use Rattle.meaning.specs.Agreement.{Agree, Comparable, Distinguishes, Over}
@@ -21,7 +20,8 @@ use Rattle.meaning.specs.Decision.{CycleAgrees, Difference, classify, distingui
 use Rattle.automaton.specs.declared.Automaton.{Automaton}
 use Rattle.automaton.specs.Value.{Valid, letters, destination, markSet}
 use Rattle.automaton.specs.View.{view, view-formed}
-use Rattle.shortest.specs.Difference.{entry, met, Shows, Tabled, Below16}
+use Rattle.shortest.specs.Difference.{entry, met, Shows, InRange, Below16}
+use Rattle.shortest.specs.Met.{met-has, met-lt}
 use Rattle.compare.specs.Acceptance.{Judged, unlike, unlike-zero, zero-unlike}
 
 -- ---- the tables of a value in "The automaton"
@@ -42,27 +42,16 @@ below-16 n L c xs hc below zero q l hq hl = go (decLt q n) (decLt l L)
     go (yes p) (no r) = unused (inr (omega arith))
     go (no p) d = unused (inl (omega arith))
 
-pub tabled : {a : Automaton} → Valid a → Tabled (a .destinations) (a .marks) (a .start)
-tabled {a} v = record {
+pub in-range : {a : Automaton} → Valid a → InRange (a .destinations) (a .marks) (a .start)
+in-range {a} v = record {
   next-lt = below-16 (a .states) (letters a) (a .states) (a .destinations) (v .states-le) (v .destination-lt) (v .no-destination);
   marks-lt = below-16 (a .states) (letters a) (2 ^ a .sets) (a .marks) (pow-mono {j = 4} (v .sets-le)) (v .marks-lt) (v .no-marks);
   start-lt = omega (arith, v .start-lt, v .states-le);
 }
 
--- ---- the sets met along a word, as a number and as `meaning` has them
-
-met-seen : (a : Automaton) (q : ℕ) (w : List ℕ) (i : ℕ) → has (met (a .destinations) (a .marks) q w) i ≡ seen (view a) q w i
-met-seen a q [] i = has-zero i
-met-seen a q (l ∷ w) i =
-    has-or (markSet a q l) (met (a .destinations) (a .marks) (destination a q l) w) i
-    ∙ ap (λ (b : Bool). has (markSet a q l) i || b) (met-seen a (destination a q l) w i)
-
-met-lt : {a : Automaton} → Valid a → (q : ℕ) (w : List ℕ) → q < a .states → Over (letters a) w → met (a .destinations) (a .marks) q w < 16
-met-lt v q [] h o = omega arith
-met-lt {a} v q (l ∷ w) h o =
-    or-lt 4 (markSet a q l) (met (a .destinations) (a .marks) (destination a q l) w)
-    (tabled v .marks-lt q l (omega (arith, v .states-le)) (omega (arith, o .0, letters-le v)))
-    (met-lt v (destination a q l) w (v .destination-lt q l h (o .0)) (o .1))
+-- the sets met from a state of the automaton
+met-below : {a : Automaton} → Valid a → (q : ℕ) (w : List ℕ) → q < a .states → Over (letters a) w → met (a .destinations) (a .marks) q w < 16
+met-below {a} v q w h o = met-lt (a .destinations) (a .marks) (in-range v .next-lt) (in-range v .marks-lt) (letters-le v) w q (omega (arith, v .states-le)) o
 
 -- ---- two values in "The automaton" over the same letters, and where their acceptances differ
 pub record Pair (a b : Automaton) (H : List ℕ) : Type 0 where
@@ -94,19 +83,19 @@ module _ {a b : Automaton} {H : List ℕ} (T : Pair a b H) where
 
     lt-A : met-A < 16
     unfolding met-A
-    lt-A = met-lt (T .valid-a) (after A x) y (run-lt (comparable .formed-A) (a .start) x (T .valid-a .start-lt) ox) oy
+    lt-A = met-below (T .valid-a) (after A x) y (run-lt (comparable .formed-A) (a .start) x (T .valid-a .start-lt) ox) oy
 
     lt-B : met-B < 16
     unfolding met-B
-    lt-B = met-lt (T .valid-b) (after B x) y (run-lt (comparable .formed-B) (b .start) x (T .valid-b .start-lt) (over-B comparable x ox)) (over-B comparable y oy)
+    lt-B = met-below (T .valid-b) (after B x) y (run-lt (comparable .formed-B) (b .start) x (T .valid-b .start-lt) (over-B comparable x ox)) (over-B comparable y oy)
 
     verdict-A : all (a .sets) (has met-A) ≡ verdict A x y
     unfolding met-A
-    verdict-A = all-same (a .sets) (has (met (a .destinations) (a .marks) (after A x) y)) (seen A (after A x) y) (λ i h. met-seen a (after A x) y i)
+    verdict-A = all-same (a .sets) (has (met (a .destinations) (a .marks) (after A x) y)) (seen A (after A x) y) (λ i h. met-has (a .destinations) (a .marks) i y (after A x))
 
     verdict-B : all (b .sets) (has met-B) ≡ verdict B x y
     unfolding met-B
-    verdict-B = all-same (b .sets) (has (met (b .destinations) (b .marks) (after B x) y)) (seen B (after B x) y) (λ i h. met-seen b (after B x) y i)
+    verdict-B = all-same (b .sets) (has (met (b .destinations) (b .marks) (after B x) y)) (seen B (after B x) y) (λ i h. met-has (b .destinations) (b .marks) i y (after B x))
 
     -- the entry for what both meet along y tells whether their verdicts differ
     hit-entry : entry H (met (a .destinations) (a .marks) (after A x) y) (met (b .destinations) (b .marks) (after B x) y) ≡ unlike (verdict A x y) (verdict B x y)

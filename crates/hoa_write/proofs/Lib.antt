@@ -1,0 +1,4 @@
+pub mod Writing
+pub mod Cases
+pub mod Values
+pub mod Answers

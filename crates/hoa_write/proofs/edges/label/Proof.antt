@@ -1,0 +1,41 @@
+-- `label` meets its contract.
+use mathlib.Core.Path.{ap, sym}
+use native.Mathlib.Omega.{arith}
+use borrow.Author.Needs.{needs}
+use lib.ListN.{length}
+use Rattle.hoa_text.specs.Written.{labelOf}
+use Rattle.hoa_write.proofs.Cases.{label-some}
+use Rattle.hoa_write.proofs.Writing.{named}
+use Rattle.hoa_write.proofs.edges.label.Statement.{statement}
+use Rattle.hoa_write.proofs.edges.label.Tie as tie
+
+byte-requires : tie.Need-byte-requires
+byte-requires c κs =
+    let s = c .before .before .before in
+    omega (arith, s .pre .1, ap (λ k. length (labelOf k (s .args .l))) (c .before .if1 .taken))
+
+same-length : tie.Need-same-length
+same-length c = search needs
+
+returns : tie.Need-returns
+returns c =
+    let s = c .before .before .before .before .before .before in
+    named (sym (ap (λ k. labelOf k (s .args .l)) (c .before .before .before .before .if1 .taken))) (c .before .before .byte .ensures)
+
+literals-requires : tie.Need-literals-requires
+literals-requires c κs =
+    let s = c .before .before .before in
+    (s .pre .0, omega (arith, s .pre .1, ap length (label-some (s .args .k) (s .args .l) (c .before .if1 .left))))
+
+same-length-2 : tie.Need-same-length-2
+same-length-2 c = search needs
+
+returns-2 : tie.Need-returns-2
+returns-2 c =
+    let s = c .before .before .before .before .before .before in
+    named (label-some (s .args .k) (s .args .l) (c .before .before .before .before .if1 .left)) (c .before .before .literals .ensures)
+
+pub label-spec : {M : Type 1} → statement M
+label-spec =
+    tie.close
+    (tie.spec byte-requires same-length returns literals-requires same-length-2 returns-2)

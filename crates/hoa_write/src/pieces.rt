@@ -1,0 +1,46 @@
+// What lines are made of: bytes, words and numbers, written at a place of a lent buffer. Each returns the place after it.
+ghost use mathlib.Core.List.{[], _∷_};
+ghost use Prim.Native.Nat.{_+_, _≤_, _<_};
+ghost use lib.ListN.{length};
+ghost use Rattle.decimal.specs.Wrote.{Wrote};
+ghost use Rattle.hoa_text.specs.Written.{decimal};
+ghost use Rattle.hoa_write.specs.Pieces.{byteIf};
+
+pub fn byte(b: u8, out: &mut [u8], at: usize) -> usize
+    requires { ⌜ at < length (now out) ⌝ }
+    ensures { λ r. ⌜ Wrote (now (out .entry)) at (b ∷ []) (now (out .exit)) r ⌝ }
+{
+    out[at] = b;
+    at + 1
+}
+
+// A byte where the test holds, and otherwise nothing.
+pub fn byte_if(test: bool, b: u8, out: &mut [u8], at: usize) -> usize
+    requires { ⌜ at + length (byteIf test b) ≤ length (now out) ⌝ }
+    ensures { λ r. ⌜ Wrote (now (out .entry)) at (byteIf test b) (now (out .exit)) r ⌝ }
+{
+    if test {
+        return byte(b, out, at);
+    }
+    at
+}
+
+pub fn word(bytes: &[u8], out: &mut [u8], at: usize) -> usize
+    requires { ⌜ at + length (now bytes) ≤ length (now out) ⌝ }
+    ensures { λ r. ⌜ Wrote (now (out .entry)) at (now (bytes .entry)) (now (out .exit)) r ⌝ }
+{
+    let mut i: usize = 0;
+    while i < bytes.len() {
+        out[at + i] = bytes[i];
+        i += 1;
+    }
+    at + i
+}
+
+// All numbers of a text have at most two digits.
+pub fn number(n: usize, out: &mut [u8], at: usize) -> usize
+    requires { ⌜ (n < 100) × (at + length (decimal n) ≤ length (now out)) ⌝ }
+    ensures { λ r. ⌜ Wrote (now (out .entry)) at (decimal n) (now (out .exit)) r ⌝ }
+{
+    decimal::write(n as u64, out, at)
+}
