@@ -1,0 +1,164 @@
+//! The automaton of document 01, its limits, runs on lasso words, and refusals.
+
+use std::fmt;
+
+// "Reference: r states (1 to 16), s sets (0 to 4). Candidate: n states (1 to 8), m sets
+// (0 to 4), start 0. Propositions k: 0 to 4"
+pub const MAX_STATES: usize = 16;
+pub const MAX_CANDIDATE_STATES: usize = 8;
+pub const MAX_SETS: usize = 4;
+pub const MAX_PROPOSITIONS: usize = 4;
+// "Proposition names have 1 to 16 bytes"
+pub const MAX_NAME: usize = 16;
+
+/// What is turned down: the number and the two values of document 01's table.
+#[derive(Clone, Copy, PartialEq, Eq, Debug)]
+pub struct Refusal {
+    pub number: u8,
+    pub a: u64,
+    pub b: u64,
+}
+
+impl Refusal {
+    pub fn new(number: u8, a: u64, b: u64) -> Refusal {
+        Refusal { number, a, b }
+    }
+
+    pub fn at(number: u8, offset: usize) -> Refusal {
+        Refusal::new(number, offset as u64, 0)
+    }
+}
+
+impl fmt::Display for Refusal {
+    fn fmt(&self, f: &mut fmt::Formatter) -> fmt::Result {
+        write!(f, "refused {} {} {}", self.number, self.a, self.b)
+    }
+}
+
+/// "Each state and letter has one transition, with a destination and a set of marks."
+/// Bit i of `marks` stands for set i.
+#[derive(Clone, Copy, PartialEq, Eq, Debug)]
+pub struct Transition {
+    pub to: usize,
+    pub marks: u8,
+}
+
+#[derive(Clone, PartialEq, Eq, Debug)]
+pub struct Automaton {
+    pub start: usize,
+    pub sets: usize,
+    /// One name for each proposition.
+    pub names: Vec<Vec<u8>>,
+    /// `table[state][letter]`; bit i of a letter is proposition i.
+    pub table: Vec<Vec<Transition>>,
+}
+
+impl Automaton {
+    pub fn states(&self) -> usize {
+        self.table.len()
+    }
+
+    pub fn propositions(&self) -> usize {
+        self.names.len()
+    }
+
+    /// "letters L = 2^k"
+    pub fn letters(&self) -> usize {
+        1 << self.names.len()
+    }
+
+    /// The set of all marks of this automaton.
+    pub fn all_marks(&self) -> u8 {
+        all_marks(self.sets)
+    }
+
+    pub fn step(&self, state: usize, letter: usize) -> Transition {
+        self.table[state][letter]
+    }
+
+    /// "A run begins at the start and takes, letter by letter, the one transition there."
+    /// "A run is accepting if every set is met infinitely often; with 0 sets all runs are."
+    /// The word is the prefix and then the loop for ever; the loop is not empty.
+    pub fn accepts(&self, prefix: &[u8], cycle: &[u8]) -> bool {
+        assert!(!cycle.is_empty());
+        let (mut state, _) = self.read(self.start, prefix);
+        let mut readings: Vec<(usize, u8)> = Vec::new();
+        loop {
+            // Once the loop begins again at a state where it began before, the readings
+            // since then are the ones that happen infinitely often.
+            if let Some(first) = readings.iter().position(|reading| reading.0 == state) {
+                let met = readings[first..].iter().fold(0, |met, reading| met | reading.1);
+                return met == self.all_marks();
+            }
+            let (next, met) = self.read(state, cycle);
+            readings.push((state, met));
+            state = next;
+        }
+    }
+
+    /// The state after the letters, and the marks met on the way.
+    fn read(&self, from: usize, letters: &[u8]) -> (usize, u8) {
+        letters.iter().fold((from, 0), |(state, met), &letter| {
+            let taken = self.step(state, letter as usize);
+            (taken.to, met | taken.marks)
+        })
+    }
+}
+
+pub fn all_marks(sets: usize) -> u8 {
+    (1u8 << sets) - 1
+}
+
+/// "n outside 1 to 8 or m outside 0 to 4": 8, n, m.
+pub fn judge_sizes(n: u64, m: u64) -> Result<(usize, usize), Refusal> {
+    if n < 1 || n > MAX_CANDIDATE_STATES as u64 || m > MAX_SETS as u64 {
+        return Err(Refusal::new(8, n, m));
+    }
+    Ok((n as usize, m as usize))
+}
+
+#[cfg(test)]
+mod tests {
+    use super::*;
+
+    /// "a and b both for ever": one state, s = 2, letters 1 {0}, 2 {1}, 3 {0 1}.
+    pub fn both_for_ever() -> Automaton {
+        let row = (0..4).map(|letter| Transition { to: 0, marks: letter }).collect();
+        Automaton { start: 0, sets: 2, names: vec![b"a".to_vec(), b"b".to_vec()], table: vec![row] }
+    }
+
+    #[test]
+    fn two_rejecting_readings_accept_together() {
+        let both = both_for_ever();
+        assert!(!both.accepts(&[3, 3], &[1]));
+        assert!(!both.accepts(&[], &[2, 0]));
+        assert!(both.accepts(&[0], &[1, 2]));
+    }
+
+    #[test]
+    fn zero_sets_accept_all_words() {
+        let mut all = both_for_ever();
+        all.sets = 0;
+        all.table[0].iter_mut().for_each(|transition| transition.marks = 0);
+        assert!(all.accepts(&[], &[0]));
+    }
+
+    #[test]
+    fn marks_of_the_whole_period_count() {
+        // Two states in turn; the mark is met on every second reading of the loop only.
+        let there = Transition { to: 1, marks: 0 };
+        let back = Transition { to: 0, marks: 1 };
+        let turn = Automaton { start: 0, sets: 1, names: vec![], table: vec![vec![there], vec![back]] };
+        assert!(turn.accepts(&[], &[0]));
+    }
+
+    #[test]
+    fn sizes_at_the_limits() {
+        // "n = 8 passes, 9 and 0 give 8"
+        assert_eq!(judge_sizes(8, 0), Ok((8, 0)));
+        assert_eq!(judge_sizes(9, 0), Err(Refusal::new(8, 9, 0)));
+        assert_eq!(judge_sizes(0, 0), Err(Refusal::new(8, 0, 0)));
+        assert_eq!(judge_sizes(8, 4), Ok((8, 4)));
+        assert_eq!(judge_sizes(1, 5), Err(Refusal::new(8, 1, 5)));
+    }
+}

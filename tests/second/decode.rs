@@ -1,0 +1,142 @@
+//! The decoder: from what a solver said to a table that agrees with the reference.
+
+use crate::automaton::*;
+use crate::clauses::Numbering;
+use crate::compare::{compare, Comparison, Word};
+use crate::solver::{Answer, Reader, Verdict};
+use std::io::Read;
+
+#[derive(Clone, PartialEq, Eq, Debug)]
+pub enum Decoded {
+    Table(Automaton),
+    None,
+    Unknown,
+    /// 12: the table differs from the reference on this word.
+    Differs(Automaton, Word),
+}
+
+/// Order: "8, then reading left to right, then 11, 14, 12".
+pub fn decode<R: Read>(reference: &Automaton, n: u64, m: u64, text: R) -> Result<Decoded, Refusal> {
+    let (n, m) = judge_sizes(n, m)?;
+    let number = Numbering::new(reference, n, m);
+    let answer = read(text, Reader::new(number.variables(), number.steps_and_marks()))?;
+    match answer.verdict {
+        Verdict::Unsatisfiable => Ok(Decoded::None),
+        Verdict::Unknown => Ok(Decoded::Unknown),
+        Verdict::Satisfiable => judge(reference, table(reference, &number, &answer)?),
+    }
+}
+
+/// "Text may arrive cut anywhere; the answer is that of the whole text."
+fn read<R: Read>(mut text: R, mut reader: Reader) -> Result<Answer, Refusal> {
+    let mut piece = vec![0; 65_536];
+    loop {
+        let length = text.read(&mut piece).expect("the solver's text can be read");
+        if length == 0 {
+            return reader.end();
+        }
+        reader.piece(&piece[..length])?;
+    }
+}
+
+/// "The table is then compared with the reference."
+fn judge(reference: &Automaton, table: Automaton) -> Result<Decoded, Refusal> {
+    match compare(&table, reference)? {
+        Comparison::Same => Ok(Decoded::Table(table)),
+        Comparison::Differ(word) => Ok(Decoded::Differs(table, word)),
+    }
+}
+
+/// "Decoding takes for each state and letter the lowest p whose step is true, with its marks."
+/// "proposition names are the reference's"
+fn table(reference: &Automaton, number: &Numbering, answer: &Answer) -> Result<Automaton, Refusal> {
+    let mut table = Vec::new();
+    for q in 0..number.n {
+        let row: Result<Vec<Transition>, Refusal> =
+            (0..number.letters).map(|l| transition(number, answer, q, l)).collect();
+        table.push(row?);
+    }
+    Ok(Automaton { start: 0, sets: number.m, names: reference.names.clone(), table })
+}
+
+/// 11: "no true step, lowest".
+fn transition(number: &Numbering, answer: &Answer, q: usize, l: usize) -> Result<Transition, Refusal> {
+    let lowest = (0..number.n).find(|&p| answer.values[number.step(q, l, p)]);
+    let Some(to) = lowest else {
+        return Err(Refusal::new(11, q as u64, l as u64));
+    };
+    let marked = |i: &usize| answer.values[number.mark(q, l, *i, to)];
+    let marks = (0..number.m).filter(marked).fold(0, |marks, i| marks | 1 << i);
+    Ok(Transition { to, marks })
+}
+
+#[cfg(test)]
+mod tests {
+    use super::*;
+    use crate::clauses::tests::{both_for_ever, list, solve};
+    use crate::clauses::File;
+    use crate::generate::{random_automaton, Random};
+    use crate::hoa;
+
+    fn all_words() -> Automaton {
+        let text = "HOA: v1 States: 1 Start: 0 Acceptance: 0 t --BODY-- State: 0 [t] 0 --END--";
+        hoa::read(text.as_bytes()).unwrap()
+    }
+
+    #[test]
+    fn second_known_deck() {
+        // "Then `s SATISFIABLE`, LF, and `v 1 2 0` is accepted; `v -1 2 0`: 11,0,0; `v 1 3 0` and
+        // `v 1 1 0`: 10,18,0."
+        let decoded = |line: &str| decode(&all_words(), 1, 0, format!("s SATISFIABLE\n{line}").as_bytes());
+        assert_eq!(decoded("v 1 2 0"), Ok(Decoded::Table(all_words())));
+        assert_eq!(decoded("v -1 2 0"), Err(Refusal::new(11, 0, 0)));
+        assert_eq!(decoded("v 1 3 0"), Err(Refusal::new(10, 18, 0)));
+        assert_eq!(decoded("v 1 1 0"), Err(Refusal::new(10, 18, 0)));
+    }
+
+    #[test]
+    fn sizes_come_before_the_text() {
+        // "n = 8 passes, 9 and 0 give 8"
+        assert_eq!(decode(&all_words(), 8, 0, &b"s UNKNOWN"[..]), Ok(Decoded::Unknown));
+        assert_eq!(decode(&all_words(), 8, 0, &b"s UNSATISFIABLE"[..]), Ok(Decoded::None));
+        assert_eq!(decode(&all_words(), 9, 0, &b"x"[..]), Err(Refusal::new(8, 9, 0)));
+        assert_eq!(decode(&all_words(), 0, 0, &b"x"[..]), Err(Refusal::new(8, 0, 0)));
+        assert_eq!(decode(&all_words(), 1, 5, &b"x"[..]), Err(Refusal::new(8, 1, 5)));
+    }
+
+    #[test]
+    fn lowest_step_with_its_own_marks() {
+        // n = 2, m = 1, L = 1: steps 1 to 4, marks 5 to 8. State 0 has both steps, and only the
+        // higher one is marked: "Joining the marks of two chosen destinations" went wrong.
+        let decoded = decode(&all_words(), 2, 1, &b"s SATISFIABLE\nv 1 2 6 4 8 0"[..]);
+        let Ok(Decoded::Differs(_, word)) = decoded else { panic!("{decoded:?}") };
+        assert_eq!(word, Word { prefix: vec![], cycle: vec![0] });
+        let decoded = decode(&all_words(), 2, 1, &b"s SATISFIABLE\nv 1 2 5 4 8 0"[..]);
+        assert!(matches!(decoded, Ok(Decoded::Table(_))));
+    }
+
+    fn stated(values: &[bool]) -> String {
+        let literal = |v: usize| if values[v] { format!("{v}") } else { format!("-{v}") };
+        let all: Vec<String> = (1..values.len()).map(literal).collect();
+        format!("s SATISFIABLE\nv {} 0\n", all.join(" "))
+    }
+
+    #[test]
+    fn satisfying_assignments_decode_to_tables_that_agree() {
+        let mut random = Random::new(9);
+        let mut found = 0;
+        for round in 0..25 {
+            let reference = match round {
+                0 => both_for_ever(),
+                _ => random_automaton(&mut random, 2, 1, 1),
+            };
+            let (n, m) = (2, 1);
+            let file = File::new(&reference, n, m);
+            let Some(values) = solve(file.variables(), &list(&file)) else { continue };
+            let decoded = decode(&reference, n as u64, m as u64, stated(&values).as_bytes());
+            assert!(matches!(decoded, Ok(Decoded::Table(_))), "{reference:?}");
+            found += 1;
+        }
+        assert!(found > 10);
+    }
+}

@@ -1,0 +1,352 @@
+//! Generated inputs, from a fixed pseudo-random generator: the same seed gives the same files.
+
+use crate::automaton::*;
+use crate::clauses::Numbering;
+use crate::generate_hoa::hoa_text;
+use crate::generate_solver::{search_case, solver_case};
+use crate::hoa;
+use std::path::Path;
+use std::{fs, io};
+
+// ---------------------------------------------------------------------------------------
+// Chance
+
+/// Splitmix64.
+pub struct Random {
+    state: u64,
+}
+
+impl Random {
+    pub fn new(seed: u64) -> Random {
+        Random { state: seed }
+    }
+
+    pub fn next(&mut self) -> u64 {
+        self.state = self.state.wrapping_add(0x9e37_79b9_7f4a_7c15);
+        let mut mixed = self.state;
+        mixed = (mixed ^ (mixed >> 30)).wrapping_mul(0xbf58_476d_1ce4_e5b9);
+        mixed = (mixed ^ (mixed >> 27)).wrapping_mul(0x94d0_49bb_1331_11eb);
+        mixed ^ (mixed >> 31)
+    }
+
+    /// A number from 0 to `bound` - 1.
+    pub fn below(&mut self, bound: usize) -> usize {
+        (self.next() % bound as u64) as usize
+    }
+
+    /// A number from `least` to `most`.
+    pub fn within(&mut self, least: usize, most: usize) -> usize {
+        least + self.below(most - least + 1)
+    }
+
+    pub fn one_in(&mut self, many: usize) -> bool {
+        self.below(many) == 0
+    }
+
+    pub fn pick<T: Copy>(&mut self, choices: &[T]) -> T {
+        choices[self.below(choices.len())]
+    }
+
+    pub fn shuffle<T>(&mut self, list: &mut [T]) {
+        for end in (1..list.len()).rev() {
+            list.swap(end, self.below(end + 1));
+        }
+    }
+}
+
+// ---------------------------------------------------------------------------------------
+// Automata
+
+/// Any automaton of this size.
+pub fn random_automaton(random: &mut Random, states: usize, k: usize, sets: usize) -> Automaton {
+    let often = random.within(1, 3);
+    let mut table = Vec::new();
+    for _ in 0..states {
+        let mut transition = |_| {
+            let marks = (0..sets).filter(|_| random.below(4) < often).fold(0, |marks, set| marks | 1 << set);
+            Transition { to: random.below(states), marks }
+        };
+        table.push((0..1 << k).map(&mut transition).collect());
+    }
+    Automaton { start: random.below(states), sets, names: names(random, k), table }
+}
+
+/// Sizes that are mostly small: states, k, sets.
+pub fn random_sizes(random: &mut Random) -> (usize, usize, usize) {
+    match random.below(20) {
+        0 => (random.within(1, 16), random.within(0, 4), random.within(0, 4)),
+        1..=4 => (random.within(1, 6), random.within(0, 3), random.within(0, 3)),
+        _ => (random.within(1, 3), random.within(0, 2), random.within(0, 2)),
+    }
+}
+
+/// Different names; mostly `a`, `b`, .., and at times any that a name may be.
+pub fn names(random: &mut Random, k: usize) -> Vec<Vec<u8>> {
+    if !random.one_in(4) {
+        return (0..k).map(|i| vec![b'a' + i as u8]).collect();
+    }
+    let mut names: Vec<Vec<u8>> = Vec::new();
+    while names.len() < k {
+        let length = random.pick(&[1, 2, 3, 8, 15, 16]);
+        let mut byte = || loop {
+            let byte = random.within(32, 126) as u8;
+            if byte != b'"' && byte != b'\\' {
+                return byte;
+            }
+        };
+        let name: Vec<u8> = (0..length).map(|_| byte()).collect();
+        if !names.contains(&name) {
+            names.push(name);
+        }
+    }
+    names
+}
+
+/// An automaton with copies of states, and for each of its states the one it is a copy of.
+/// It agrees with the given one, whichever copy each transition leads to.
+pub fn with_copies(random: &mut Random, given: &Automaton, states: usize) -> (Automaton, Vec<usize>) {
+    let mut origin: Vec<usize> = (0..states)
+        .map(|state| if state < given.states() { state } else { random.below(given.states()) })
+        .collect();
+    random.shuffle(&mut origin);
+    let mut table = Vec::new();
+    for &of in &origin {
+        let copied = |edge: &Transition| Transition { to: copy_of(random, &origin, edge.to), ..*edge };
+        table.push(given.table[of].iter().map(copied).collect());
+    }
+    let start = copy_of(random, &origin, given.start);
+    (Automaton { start, table, ..given.clone() }, origin)
+}
+
+fn copy_of(random: &mut Random, origin: &[usize], state: usize) -> usize {
+    let copies: Vec<usize> = (0..origin.len()).filter(|&copy| origin[copy] == state).collect();
+    random.pick(&copies)
+}
+
+/// The same automaton with states 0 and `start` exchanged: the start is then 0.
+pub fn starting_at_zero(given: &Automaton) -> Automaton {
+    let exchanged = |state: usize| match state {
+        0 => given.start,
+        _ if state == given.start => 0,
+        _ => state,
+    };
+    let row = |state: usize| {
+        let moved = |edge: &Transition| Transition { to: exchanged(edge.to), ..*edge };
+        given.table[exchanged(state)].iter().map(moved).collect()
+    };
+    Automaton { start: 0, table: (0..given.states()).map(row).collect(), ..given.clone() }
+}
+
+/// The automaton with `sets` sets, at least as many as before, in another order: further sets
+/// are met always or just when an old one is.
+pub fn with_sets(random: &mut Random, given: &Automaton, sets: usize) -> Automaton {
+    let mut sources: Vec<Option<usize>> = (0..given.sets).map(Some).collect();
+    while sources.len() < sets {
+        sources.push(if given.sets > 0 && random.one_in(2) { Some(random.below(given.sets)) } else { None });
+    }
+    random.shuffle(&mut sources);
+    let mut other = given.clone();
+    other.sets = sets;
+    for edge in other.table.iter_mut().flatten() {
+        let old = edge.marks;
+        let carries = |set: &usize| sources[*set].is_none_or(|source| old >> source & 1 == 1);
+        edge.marks = (0..sets).filter(carries).fold(0, |marks, set| marks | 1 << set);
+    }
+    other
+}
+
+/// One destination or one mark is another.
+pub fn nearly(random: &mut Random, given: &Automaton) -> Automaton {
+    let mut other = given.clone();
+    let (state, letter) = (random.below(given.states()), random.below(given.letters()));
+    let edge = &mut other.table[state][letter];
+    if given.sets > 0 && random.one_in(2) {
+        edge.marks ^= 1 << random.below(given.sets);
+    } else {
+        edge.to = random.below(given.states());
+    }
+    other
+}
+
+// ---------------------------------------------------------------------------------------
+// Assignments
+
+/// The assignment that states the table, and of the paths just those that there are: it
+/// satisfies the clause file if the table agrees with the reference. Index 0 is not used.
+pub fn closure(reference: &Automaton, table: &Automaton) -> Vec<bool> {
+    let number = Numbering::new(reference, table.states(), table.sets);
+    let mut values = vec![false; number.variables() + 1];
+    for q in 0..number.n {
+        for l in 0..number.letters {
+            let edge = table.step(q, l);
+            state_step(&number, &mut values, q, l, edge);
+        }
+    }
+    close(reference, &number, &mut values);
+    values
+}
+
+pub fn state_step(number: &Numbering, values: &mut [bool], q: usize, l: usize, edge: Transition) {
+    values[number.step(q, l, edge.to)] = true;
+    for i in 0..number.m {
+        values[number.mark(q, l, i, edge.to)] = edge.marks >> i & 1 == 1;
+    }
+}
+
+/// Makes just those paths true that the true steps ask for.
+pub fn close(reference: &Automaton, number: &Numbering, values: &mut [bool]) {
+    let mut starts = vec![(0, reference.start)];
+    while let Some((q, u)) = starts.pop() {
+        if values[number.path((q, u), (q, u), 0, 0)] {
+            continue;
+        }
+        let mut ends = vec![((q, u), 0, 0)];
+        while let Some((end, i, j)) = ends.pop() {
+            let path = number.path((q, u), end, i, j);
+            if std::mem::replace(&mut values[path], true) {
+                continue;
+            }
+            for (next, candidate_marks, reference_marks) in product_steps(reference, number, values, end) {
+                ends.push((next, i | candidate_marks, j | reference_marks));
+                starts.push(next);
+            }
+        }
+    }
+}
+
+type ProductStep = ((usize, usize), usize, usize);
+
+fn product_steps(
+    reference: &Automaton,
+    number: &Numbering,
+    values: &[bool],
+    (p, v): (usize, usize),
+) -> Vec<ProductStep> {
+    let mut steps = Vec::new();
+    for l in 0..number.letters {
+        let step = reference.step(v, l);
+        for t in (0..number.n).filter(|&t| values[number.step(p, l, t)]) {
+            let marked = |i: &usize| values[number.mark(p, l, *i, t)];
+            let marks = (0..number.m).filter(marked).fold(0, |marks, i| marks | 1 << i);
+            steps.push(((t, step.to), marks, step.marks as usize));
+        }
+    }
+    steps
+}
+
+// ---------------------------------------------------------------------------------------
+// Files
+
+/// Writes `count` inputs of a kind into the directory. Each input depends on the seed and its
+/// own number only.
+pub fn generate(kind: &str, seed: u64, count: usize, directory: &Path) -> io::Result<()> {
+    let write = match kind {
+        "hoa" => write_hoa,
+        "pairs" => write_pair,
+        "solver" => write_solver,
+        "search" => write_search,
+        _ => return Err(io::Error::new(io::ErrorKind::InvalidInput, "kinds: hoa, pairs, solver, search")),
+    };
+    fs::create_dir_all(directory)?;
+    for case in 0..count {
+        let mut random = Random::new(Random::new(seed).next() ^ case as u64);
+        random.next();
+        write(&mut random, &|end: &str| directory.join(format!("{case:05}.{end}")))?;
+    }
+    Ok(())
+}
+
+type Names<'a> = &'a dyn Fn(&str) -> std::path::PathBuf;
+
+fn write_hoa(random: &mut Random, name: Names) -> io::Result<()> {
+    fs::write(name("hoa"), hoa_text(random))
+}
+
+fn write_pair(random: &mut Random, name: Names) -> io::Result<()> {
+    let (first, second) = pair(random);
+    fs::write(name("first.hoa"), hoa::write(&first))?;
+    fs::write(name("second.hoa"), hoa::write(&second))
+}
+
+fn write_solver(random: &mut Random, name: Names) -> io::Result<()> {
+    let case = solver_case(random);
+    fs::write(name("reference.hoa"), hoa::write(&case.reference))?;
+    fs::write(name("sizes"), format!("{} {}\n", case.n, case.m))?;
+    fs::write(name("solver"), case.text)
+}
+
+fn write_search(random: &mut Random, name: Names) -> io::Result<()> {
+    let (reference, answers) = search_case(random);
+    fs::write(name("reference.hoa"), hoa::write(&reference))?;
+    for (count, answer) in answers.iter().enumerate() {
+        fs::write(name(&format!("answer.{:02}", count + 1)), answer)?;
+    }
+    Ok(())
+}
+
+/// Two automata: the same but for names, copies and sets; nearly that; or any two. Now and then
+/// they have not the same number of propositions.
+fn pair(random: &mut Random) -> (Automaton, Automaton) {
+    let (states, k, sets) = random_sizes(random);
+    let first = random_automaton(random, states, k, sets);
+    if random.one_in(40) {
+        let other_k = random.within(0, 4);
+        return (first, random_automaton(random, states, other_k, sets));
+    }
+    if random.one_in(5) {
+        let (other_states, other_sets) = (random.within(1, 4), random.within(0, 3));
+        return (first, random_automaton(random, other_states, k, other_sets));
+    }
+    let copies = (states + random.below(3)).min(MAX_STATES);
+    let more = (sets + random.below(3)).min(MAX_SETS);
+    let (copied, _) = with_copies(random, &first, copies);
+    let mut second = with_sets(random, &copied, more);
+    for _ in 0..random.below(3) {
+        second = nearly(random, &second);
+    }
+    if random.one_in(2) {
+        (first, second)
+    } else {
+        (second, first)
+    }
+}
+
+#[cfg(test)]
+mod tests {
+    use super::*;
+    use crate::compare::{compare, Comparison};
+
+    #[test]
+    fn copies_and_sets_change_no_word() {
+        let mut random = Random::new(1);
+        for _ in 0..200 {
+            let (states, k, sets) = (random.within(1, 4), random.within(0, 2), random.within(0, 2));
+            let given = random_automaton(&mut random, states, k, sets);
+            let (copied, _) = with_copies(&mut random, &given, states + 2);
+            let other = starting_at_zero(&with_sets(&mut random, &copied, sets + 1));
+            assert_eq!(other.start, 0);
+            assert_eq!(compare(&given, &other), Ok(Comparison::Same));
+        }
+    }
+
+    #[test]
+    fn written_automata_read_back() {
+        let mut random = Random::new(2);
+        for _ in 0..200 {
+            let (states, k, sets) = random_sizes(&mut random);
+            let given = random_automaton(&mut random, states, k, sets);
+            assert_eq!(hoa::read(&hoa::write(&given)), Ok(given));
+        }
+    }
+
+    #[test]
+    fn pairs_are_of_both_kinds() {
+        let mut random = Random::new(3);
+        let mut same = 0;
+        for _ in 0..400 {
+            let (first, second) = pair(&mut random);
+            same += (compare(&first, &second) == Ok(Comparison::Same)) as usize;
+        }
+        assert!((100..300).contains(&same), "{same} of 400");
+    }
+}

@@ -1,0 +1,570 @@
+//! Generated HOA texts: valid ones in many layouts, and damaged ones.
+
+use crate::automaton::*;
+use crate::generate::{names, random_automaton, random_sizes, Random};
+
+type Token = Vec<u8>;
+
+/// About half are valid.
+pub fn hoa_text(random: &mut Random) -> Vec<u8> {
+    let valid = random.below(100) < 45;
+    let (states, k, sets) = random_sizes(random);
+    let automaton = random_automaton(random, states, k, sets);
+    let mut parts = Parts::of(random, &automaton);
+    if valid {
+        let text = lay_out(random, &parts.tokens());
+        return if random.one_in(100) { lengthened(text, 65_536) } else { text };
+    }
+    match random.below(3) {
+        0 => {
+            parts.damage(random, &automaton);
+            lay_out(random, &parts.tokens())
+        }
+        1 => {
+            let mut tokens = parts.tokens();
+            damage_tokens(random, &mut tokens);
+            lay_out(random, &tokens)
+        }
+        _ => {
+            let mut text = lay_out(random, &parts.tokens());
+            damage_bytes(random, &mut text);
+            text
+        }
+    }
+}
+
+fn words(text: &str) -> Vec<Token> {
+    text.split_whitespace().map(|word| word.as_bytes().to_vec()).collect()
+}
+
+fn quoted(text: &[u8]) -> Token {
+    [b"\"", text, b"\""].concat()
+}
+
+// ---------------------------------------------------------------------------------------
+// The parts of a text
+
+/// The header's items, the states, and each state's edges, as tokens.
+struct Parts {
+    opening: Vec<Token>,
+    items: Vec<Vec<Token>>,
+    states: Vec<(Vec<Token>, Vec<Vec<Token>>)>,
+    closing: Vec<Token>,
+}
+
+impl Parts {
+    fn of(random: &mut Random, automaton: &Automaton) -> Parts {
+        let mut states: Vec<_> = (0..automaton.states()).map(|q| state_part(random, automaton, q)).collect();
+        if random.one_in(2) {
+            random.shuffle(&mut states);
+        }
+        Parts { opening: words("HOA: v1"), items: items(random, automaton), states, closing: words("--END--") }
+    }
+
+    fn tokens(&self) -> Vec<Token> {
+        let mut all = self.opening.clone();
+        all.extend(self.items.concat());
+        all.extend(words("--BODY--"));
+        for (head, edges) in &self.states {
+            all.extend(head.clone());
+            all.extend(edges.concat());
+        }
+        all.extend(self.closing.clone());
+        all
+    }
+
+    /// Something that a whole part of the text has wrong.
+    fn damage(&mut self, random: &mut Random, automaton: &Automaton) {
+        let at = random.below(self.states.len());
+        match random.below(16) {
+            0 => drop_one(random, &mut self.items),
+            1 => double_one(random, &mut self.items),
+            2 => drop_one(random, &mut self.states),
+            3 => double_one(random, &mut self.states),
+            4 | 14 => drop_one(random, &mut self.states[at].1),
+            5 => double_one(random, &mut self.states[at].1),
+            6 | 15 => self.states[at].1.insert(0, any_edge(random, automaton)),
+            7 => self.replace(b"AP:", names_item(odd_names(random))),
+            8 => {
+                let item = odd_acceptance(random, automaton.sets);
+                self.replace(b"Acceptance:", item);
+            }
+            9 => self.nest(random, automaton),
+            10 => self.odd_state(random),
+            11 => {
+                let item =
+                    words(random.pick(&["Alias: @a 0", "HOA: v1", "State: 0", "_x: 1", "x: @a", "x: 01", "x: !t"]));
+                let at = random.below(self.items.len() + 1);
+                self.items.insert(at, item);
+            }
+            12 => {
+                let start = random.pick(&["Start: 0 & 1", "Start: 0 1", "Start: 16", "Start:", "Start: 00"]);
+                self.replace(b"Start:", words(start));
+            }
+            _ => {
+                let states =
+                    random.pick(&["0", "17", "16", "01", "1 1", "99999999999999999999", "4294967297", "t"]);
+                self.replace(b"States:", words(&format!("States: {states}")));
+            }
+        }
+    }
+
+    fn replace(&mut self, name: &[u8], item: Vec<Token>) {
+        match self.items.iter().position(|item| item[0] == name) {
+            Some(at) => self.items[at] = item,
+            None => self.items.push(item),
+        }
+    }
+
+    /// A label that nests about 32 deep; it holds always or never.
+    fn nest(&mut self, random: &mut Random, automaton: &Automaton) {
+        let depth = random.within(31, 34);
+        let mut label = words(random.pick(&["t", "f"]));
+        for _ in 0..depth {
+            if random.one_in(2) {
+                label.insert(0, b"!".to_vec());
+            } else {
+                label.insert(0, b"(".to_vec());
+                label.push(b")".to_vec());
+            }
+        }
+        let at = random.below(self.states.len());
+        if random.one_in(2) {
+            self.states[at].1.clear();
+        }
+        self.states[at].1.push(edge_anywhere(random, label, automaton));
+    }
+
+    /// A form of a state or an edge that HOA has and that is not read here, or another number.
+    fn odd_state(&mut self, random: &mut Random) {
+        let at = random.below(self.states.len());
+        let odd = words(random.pick(&[
+            "State: [t] 0", "State: 0 {0}", "State: 0 0", "State: 0 \"x\" \"y\"", "State:", "State: 00",
+            "State: 16", "State: t", "States: 1", "State: 18446744073709551616",
+        ]));
+        self.states[at].0 = odd;
+    }
+}
+
+fn drop_one<T>(random: &mut Random, list: &mut Vec<T>) {
+    if !list.is_empty() {
+        list.remove(random.below(list.len()));
+    }
+}
+
+fn double_one<T: Clone>(random: &mut Random, list: &mut Vec<T>) {
+    if !list.is_empty() {
+        let again = list[random.below(list.len())].clone();
+        list.insert(random.below(list.len() + 1), again);
+    }
+}
+
+fn items(random: &mut Random, automaton: &Automaton) -> Vec<Vec<Token>> {
+    let mut items = vec![
+        words(&format!("States: {}", automaton.states())),
+        words(&format!("Start: {}", automaton.start)),
+        acceptance_item(automaton.sets),
+    ];
+    if automaton.propositions() > 0 || random.one_in(2) {
+        items.push(names_item(automaton.names.clone()));
+    }
+    for _ in 0..random.below(4) {
+        items.push(skipped_item(random));
+    }
+    random.shuffle(&mut items);
+    items
+}
+
+fn acceptance_item(sets: usize) -> Vec<Token> {
+    let parts: Vec<String> = (0..sets).map(|set| format!("Inf ( {set} )")).collect();
+    let condition = if sets == 0 { "t".to_string() } else { parts.join(" & ") };
+    words(&format!("Acceptance: {sets} {condition}"))
+}
+
+fn names_item(names: Vec<Vec<u8>>) -> Vec<Token> {
+    let mut item = words(&format!("AP: {}", names.len()));
+    item.extend(names.iter().map(|name| quoted(name)));
+    item
+}
+
+fn skipped_item(random: &mut Random) -> Vec<Token> {
+    match random.below(6) {
+        0 => words("properties: trans-labels explicit-labels trans-acc complete deterministic"),
+        1 => words("acc-name: generalized-Buchi 2"),
+        2 => [words("tool:"), vec![quoted(b"x"), quoted(b"1.0")]].concat(),
+        3 => [words("name:"), vec![quoted(&any_text(random))]].concat(),
+        4 => words(random.pick(&["x:", "a_b-c: t f 17 Inf", "v1: HOA v1", "z9_: 99999999999999999999", "t: t"])),
+        _ => [words("x-y: 7"), vec![quoted(&any_text(random))], words("t 0")].concat(),
+    }
+}
+
+const BETWEEN_QUOTES: [&[u8]; 16] = [
+    b"a", b" ", b"\\\"", b"\\\\", b"--BODY--", b"--END--", b"State: 0", b"/* x */", b"\n", b"\\n", b"\x00",
+    b"\xc3\xbc", b"\xff", b"{0}", b"GFa & GFb", b"\\\n",
+];
+
+/// What may stand between quotes in a skipped item or a state's name.
+fn any_text(random: &mut Random) -> Vec<u8> {
+    (0..random.below(6)).flat_map(|_| random.pick(&BETWEEN_QUOTES).to_vec()).collect()
+}
+
+fn odd_names(random: &mut Random) -> Vec<Vec<u8>> {
+    let count = random.within(1, 5);
+    let mut odd = names(random, count.min(4));
+    odd.resize(count, b"z".to_vec());
+    let at = random.below(count);
+    odd[at] = match random.below(9) {
+        0 => Vec::new(),
+        1 => vec![b'x'; 17],
+        2 => vec![b'x'; 16],
+        3 => odd[random.below(count)].clone(),
+        4 => b"a\\\"".to_vec(),
+        5 => b"\xc3\xbc".to_vec(),
+        6 => b"a\tb".to_vec(),
+        7 => [vec![b'x'; 20], vec![127]].concat(),
+        _ => b"b~ ".to_vec(),
+    };
+    odd
+}
+
+fn odd_acceptance(random: &mut Random, sets: usize) -> Vec<Token> {
+    let odd = [
+        "0 f", "0", "1 t", "1 Fin ( 0 )", "1 Inf ( ! 0 )", "1 ( Inf ( 0 ) )", "2 Inf ( 0 ) | Inf ( 1 )",
+        "2 Inf ( 1 ) & Inf ( 0 )", "2 Inf ( 0 )", "1 Inf ( 0 ) & Inf ( 0 )", "5 Inf ( 0 )", "00 t", "01 Inf ( 0 )",
+        "1 Inf ( 00 )", "0 t t", "0 t @a", "1 Inf ( 0 ) [", "1 Inf ( 0 ) \"x\"", "1 Inf ( 0 ) --END--", "t",
+        "1 Inf ( 0 ) --ABORT--", "1 Inf ( 0 ) /* */", "1 Inf", "1 Inf (", "2 Inf ( 0 ) &", "1 Inf ( 1 )", "0 t 1",
+        "3 Inf ( 0 ) & Inf ( 1 ) & Inf ( 1 )", "99999999999999999999 t", "0 t 00", "1 Inf-x ( 0 )", "0 t-",
+    ];
+    if random.one_in(4) {
+        let mut item = acceptance_item(sets);
+        drop_one(random, &mut item);
+        return item;
+    }
+    words(&format!("Acceptance: {}", random.pick(&odd)))
+}
+
+// ---------------------------------------------------------------------------------------
+// States, edges, labels
+
+fn state_part(random: &mut Random, automaton: &Automaton, state: usize) -> (Vec<Token>, Vec<Vec<Token>>) {
+    let mut head = words(&format!("State: {state}"));
+    if random.one_in(4) {
+        head.push(quoted(&any_text(random)));
+    }
+    let mut edges: Vec<Vec<Token>> = Vec::new();
+    let mut left: Vec<usize> = (0..automaton.letters()).collect();
+    while let Some(&first) = left.first() {
+        let transition = automaton.step(state, first);
+        let alone = random.one_in(4);
+        let (taken, rest): (Vec<usize>, Vec<usize>) = left
+            .iter()
+            .partition(|&&letter| letter == first || !alone && automaton.step(state, letter) == transition);
+        let letters = taken.iter().fold(0u16, |set, letter| set | 1 << letter);
+        let label = label(random, automaton.propositions(), letters);
+        edges.push(edge_of(random, label, transition));
+        left = rest;
+    }
+    if random.one_in(10) {
+        let label = label(random, automaton.propositions(), 0);
+        edges.push(edge_anywhere(random, label, automaton));
+    }
+    random.shuffle(&mut edges);
+    (head, edges)
+}
+
+/// An edge with this label, to any state, with any marks.
+fn edge_anywhere(random: &mut Random, label: Vec<Token>, automaton: &Automaton) -> Vec<Token> {
+    let marks = random.next() as u8 & automaton.all_marks();
+    let to = random.below(automaton.states());
+    edge_of(random, label, Transition { to, marks })
+}
+
+fn any_edge(random: &mut Random, automaton: &Automaton) -> Vec<Token> {
+    let letters = random.next() as u16;
+    let label = label(random, automaton.propositions(), letters & full(automaton.propositions()));
+    edge_anywhere(random, label, automaton)
+}
+
+fn edge_of(random: &mut Random, label: Vec<Token>, transition: Transition) -> Vec<Token> {
+    let mut marks: Vec<usize> = (0..MAX_SETS).filter(|set| transition.marks >> set & 1 == 1).collect();
+    if !marks.is_empty() && random.one_in(6) {
+        marks.push(random.pick(&marks.clone()));
+    }
+    random.shuffle(&mut marks);
+    let mut edge = [words("["), label, words(&format!("] {}", transition.to))].concat();
+    if !marks.is_empty() || random.one_in(10) {
+        edge.extend(words("{"));
+        edge.extend(marks.iter().map(|mark| mark.to_string().into_bytes()));
+        edge.extend(words("}"));
+    }
+    edge
+}
+
+fn full(k: usize) -> u16 {
+    if k == 4 {
+        u16::MAX
+    } else {
+        (1 << (1 << k)) - 1
+    }
+}
+
+fn letters_with(k: usize, proposition: usize) -> u16 {
+    (0..1u16 << k).filter(|letter| letter >> proposition & 1 == 1).fold(0, |set, letter| set | 1 << letter)
+}
+
+/// How tightly a formula's outermost sign binds.
+#[derive(Clone, Copy, PartialEq, PartialOrd)]
+enum Binds {
+    Or,
+    And,
+    Tight,
+}
+
+struct Formula {
+    binds: Binds,
+    tokens: Vec<Token>,
+}
+
+impl Formula {
+    fn new(binds: Binds, tokens: Vec<Token>) -> Formula {
+        Formula { binds, tokens }
+    }
+
+    /// In brackets where it binds too loosely.
+    fn at_least(self, binds: Binds) -> Vec<Token> {
+        if self.binds >= binds {
+            return self.tokens;
+        }
+        [words("("), self.tokens, words(")")].concat()
+    }
+}
+
+/// A label that just these letters satisfy; with many letters not deep, or the text is too long.
+fn label(random: &mut Random, k: usize, letters: u16) -> Vec<Token> {
+    let depth = random.pick(if k < 3 { &[0, 0, 1, 2, 3, 5] } else { &[0, 0, 0, 0, 0, 1] });
+    formula(random, k, letters, depth).tokens
+}
+
+fn formula(random: &mut Random, k: usize, letters: u16, depth: usize) -> Formula {
+    if depth == 0 {
+        return flat_formula(random, k, letters);
+    }
+    let full = full(k);
+    let (some, more) = (random.next() as u16 & full, random.next() as u16 & full);
+    match random.below(5) {
+        0 => {
+            let first = formula(random, k, letters & some, depth - 1).at_least(Binds::And);
+            let second = formula(random, k, letters & !(some & more), depth - 1);
+            Formula::new(Binds::Or, [first, words("|"), second.at_least(Binds::And)].concat())
+        }
+        1 => {
+            let first = formula(random, k, letters | some, depth - 1).at_least(Binds::Tight);
+            let second = formula(random, k, letters | (more & !some), depth - 1);
+            Formula::new(Binds::And, [first, words("&"), second.at_least(Binds::Tight)].concat())
+        }
+        2 => {
+            let opposite = formula(random, k, full & !letters, depth - 1).at_least(Binds::Tight);
+            Formula::new(Binds::Tight, [words("!"), opposite].concat())
+        }
+        3 => {
+            let inner = formula(random, k, letters, depth - 1).tokens;
+            Formula::new(Binds::Tight, [words("("), inner, words(")")].concat())
+        }
+        _ => formula(random, k, letters, depth - 1),
+    }
+}
+
+fn flat_formula(random: &mut Random, k: usize, letters: u16) -> Formula {
+    if letters == full(k) && !random.one_in(4) {
+        return Formula::new(Binds::Tight, words("t"));
+    }
+    if letters == 0 {
+        return Formula::new(Binds::Tight, words("f"));
+    }
+    for proposition in 0..k {
+        if letters == letters_with(k, proposition) {
+            return Formula::new(Binds::Tight, words(&proposition.to_string()));
+        }
+        if letters == full(k) & !letters_with(k, proposition) {
+            return Formula::new(Binds::Tight, words(&format!("! {proposition}")));
+        }
+    }
+    let mut cubes: Vec<String> =
+        (0..1 << k).filter(|l| letters >> l & 1 == 1).map(|l| cube(random, k, l)).collect();
+    random.shuffle(&mut cubes);
+    let binds = if cubes.len() > 1 { Binds::Or } else { Binds::And };
+    Formula::new(binds, words(&cubes.join(" | ")))
+}
+
+/// The formula of one letter, its literals in any order.
+fn cube(random: &mut Random, k: usize, letter: usize) -> String {
+    if k == 0 {
+        return "t".to_string();
+    }
+    let literal = |i: usize| if letter >> i & 1 == 1 { i.to_string() } else { format!("! {i}") };
+    let mut literals: Vec<String> = (0..k).map(literal).collect();
+    random.shuffle(&mut literals);
+    literals.join(" & ")
+}
+
+// ---------------------------------------------------------------------------------------
+// Layout
+
+fn lay_out(random: &mut Random, tokens: &[Token]) -> Vec<u8> {
+    let style = random.below(4);
+    let mut text: Vec<u8> = Vec::new();
+    if random.one_in(12) {
+        text.extend_from_slice(b" \n");
+    }
+    for (at, token) in tokens.iter().enumerate() {
+        if at > 0 {
+            text.extend(blanks(random, style, &tokens[at - 1], token));
+        }
+        text.extend_from_slice(token);
+    }
+    let after: &[u8] = random.pick(&[b"\n".as_slice(), b"\n", b"\n", b"", b"\r\n", b" \t\n\n"]);
+    text.extend_from_slice(after);
+    text
+}
+
+/// What stands between two tokens.
+fn blanks(random: &mut Random, style: usize, before: &Token, token: &Token) -> Vec<u8> {
+    let least: &[u8] = if must_part(before, token) { b" " } else { b"" };
+    match style {
+        0 => least.to_vec(),
+        1 => b" ".to_vec(),
+        2 => as_printed(before, token, least).to_vec(),
+        _ => {
+            let many = random.below(3).max(least.len());
+            (0..many).map(|_| random.pick(b" \t\n\r")).collect()
+        }
+    }
+}
+
+/// As tools print it: items, states and edges on a line each, labels without blanks.
+fn as_printed<'a>(before: &Token, token: &Token, least: &'a [u8]) -> &'a [u8] {
+    let item = token.ends_with(b":") || token.starts_with(b"--") || before.starts_with(b"--");
+    if item || token == b"[" {
+        return b"\n";
+    }
+    let tight = |token: &Token| token.len() == 1 && b"!&|()[]{}".contains(&token[0]);
+    if before.ends_with(b":") || before == b"]" || token == b"{" || !tight(before) && !tight(token) {
+        return b" ";
+    }
+    least
+}
+
+/// Whether the two would be read as one token, or as others, without a blank between them.
+fn must_part(before: &Token, token: &Token) -> bool {
+    let (Some(&first), Some(&next)) = (before.first(), token.first()) else { return false };
+    let word = (first.is_ascii_alphabetic() || first == b'_' || first == b'@') && !before.ends_with(b":");
+    let goes_on = next.is_ascii_alphanumeric() || next == b'_' || next == b'-' || next == b':';
+    word && goes_on || first.is_ascii_digit() && next.is_ascii_digit()
+}
+
+fn lengthened(mut text: Vec<u8>, length: usize) -> Vec<u8> {
+    text.resize(length.max(text.len()), b'\n');
+    text
+}
+
+// ---------------------------------------------------------------------------------------
+// Damage
+
+fn any_token(random: &mut Random) -> Token {
+    let tokens = [
+        "State:", "HOA:", "v1", "States:", "Start:", "AP:", "Acceptance:", "Alias:", "name:", "Fin", "Inf", "t",
+        "f", "@a", "@", "!", "&", "|", "(", ")", "[", "]", "{", "}", "--BODY--", "--END--", "--ABORT--", "--BODY-",
+        "--", "-", "\"x\"", "\"\"", "\"\\\"", "\"", "0", "1", "2", "00", "01", "/*x*/", "/", ":", ";", "x", "16",
+        "17", "5", "99999999999999999999999", "4294967296", "18446744073709551616", "\u{80}", "t:", "_", "_:",
+    ];
+    random.pick(&tokens).as_bytes().to_vec()
+}
+
+fn damage_tokens(random: &mut Random, tokens: &mut Vec<Token>) {
+    for _ in 0..random.within(1, 2) {
+        let at = random.below(tokens.len());
+        match random.below(9) {
+            0 => drop(tokens.remove(at)),
+            1 => tokens.insert(at, tokens[at].clone()),
+            2 => {
+                let other = (at + 1) % tokens.len();
+                tokens.swap(at, other);
+            }
+            3 => tokens[at] = any_token(random),
+            4 => tokens.insert(at, any_token(random)),
+            5..=7 => other_number(random, tokens),
+            _ => tokens.truncate(at.max(1)),
+        }
+    }
+}
+
+fn other_number(random: &mut Random, tokens: &mut [Token]) {
+    let numbers: Vec<usize> = (0..tokens.len()).filter(|&at| tokens[at][0].is_ascii_digit()).collect();
+    if !numbers.is_empty() {
+        let number = random.pick(&[
+            "0", "1", "2", "4", "5", "16", "17", "00", "01", "256", "4294967296", "65536", "18446744073709551616",
+            "340282366920938463463374607431768211456",
+        ]);
+        tokens[random.pick(&numbers)] = number.as_bytes().to_vec();
+    }
+}
+
+fn damage_bytes(random: &mut Random, text: &mut Vec<u8>) {
+    if random.one_in(30) {
+        let length = random.within(65_536, 65_538);
+        *text = lengthened(std::mem::take(text), length);
+        return;
+    }
+    for _ in 0..random.within(1, 3) {
+        let at = random.below(text.len());
+        match random.below(6) {
+            0 => text[at] = any_byte(random),
+            1 => drop(text.remove(at)),
+            2 => text.insert(at, any_byte(random)),
+            3 => text.truncate(at.max(1)),
+            4 => text.push(any_byte(random)),
+            _ => {
+                let other = random.below(text.len());
+                text.swap(at, other);
+            }
+        }
+    }
+}
+
+fn any_byte(random: &mut Random) -> u8 {
+    match random.below(3) {
+        0 => random.next() as u8,
+        _ => random.pick(b" \t\n\r\"\\0123456789tf!&|()[]{}-:@/*_aAzZ\x0b\x0c\x00\x7f"),
+    }
+}
+
+#[cfg(test)]
+mod tests {
+    use super::*;
+    use crate::hoa;
+
+    #[test]
+    fn valid_texts_read_as_meant() {
+        let mut random = Random::new(4);
+        for _ in 0..400 {
+            let (states, k, sets) = random_sizes(&mut random);
+            let automaton = random_automaton(&mut random, states, k, sets);
+            let tokens = Parts::of(&mut random, &automaton).tokens();
+            let text = lay_out(&mut random, &tokens);
+            assert!(hoa::read(&text) == Ok(automaton), "{}", String::from_utf8_lossy(&text));
+        }
+    }
+
+    #[test]
+    fn all_refusals_of_the_reader_occur() {
+        let mut random = Random::new(5);
+        let mut count = [0; 8];
+        for _ in 0..3000 {
+            match hoa::read(&hoa_text(&mut random)) {
+                Ok(_) => count[0] += 1,
+                Err(refusal) => count[refusal.number as usize] += 1,
+            }
+        }
+        assert!(count.iter().all(|&times| times > 20), "{count:?}");
+    }
+}

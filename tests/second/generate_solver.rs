@@ -1,0 +1,376 @@
+//! Generated solver texts for small references, and chains of answers for the search.
+
+use crate::automaton::*;
+use crate::clauses::Numbering;
+use crate::generate::*;
+use crate::search::Search;
+
+pub struct SolverCase {
+    pub reference: Automaton,
+    pub n: usize,
+    pub m: usize,
+    pub text: Vec<u8>,
+}
+
+/// A reference and a text for it; now and then n or m is out of range.
+pub fn solver_case(random: &mut Random) -> SolverCase {
+    let plan = Plan::new(random);
+    let n = plan.core.states() + random.below(3);
+    let m = plan.core.sets + random.below(2);
+    let text = match random.below(8) {
+        0 => verdict_only(random, "UNSATISFIABLE"),
+        1 => verdict_only(random, "UNKNOWN"),
+        _ => table_text(random, &plan, n, m),
+    };
+    let (n, m) = match random.below(60) {
+        0 => (0, m),
+        1 => (9, m),
+        2 => (n, 5),
+        _ => (n, m),
+    };
+    SolverCase { reference: plan.reference, n, m, text }
+}
+
+/// A small automaton and a reference that agrees with it.
+struct Plan {
+    core: Automaton,
+    reference: Automaton,
+}
+
+impl Plan {
+    fn new(random: &mut Random) -> Plan {
+        let (states, k, sets) = (random.within(1, 2), random.within(0, 2), random.within(0, 2));
+        let core = random_automaton(random, states, k, sets);
+        let more = states + random.below(3);
+        let (copied, _) = with_copies(random, &core, more);
+        let sets = sets + random.below(2);
+        let reference = with_sets(random, &copied, sets);
+        Plan { core, reference }
+    }
+
+    /// What each step and mark variable is: a table that agrees, with further true steps to states
+    /// that are copies of the same one.
+    fn values(&self, random: &mut Random, n: usize, m: usize) -> Vec<bool> {
+        let wide = with_sets(random, &self.core, m);
+        let (copied, mut origin) = with_copies(random, &wide, n);
+        origin.swap(0, copied.start);
+        let table = starting_at_zero(&copied);
+        let mut values = closure(&self.reference, &table);
+        if random.one_in(2) {
+            let number = Numbering::new(&self.reference, n, m);
+            self.further_steps(random, &number, &table, &origin, &mut values);
+            close(&self.reference, &number, &mut values);
+        }
+        values
+    }
+
+    fn further_steps(
+        &self,
+        random: &mut Random,
+        number: &Numbering,
+        table: &Automaton,
+        origin: &[usize],
+        values: &mut [bool],
+    ) {
+        values[number.steps_and_marks() + 1..].fill(false);
+        for q in 0..number.n {
+            for l in 0..number.letters {
+                let edge = table.step(q, l);
+                for to in (0..number.n).filter(|&to| origin[to] == origin[edge.to]) {
+                    if random.one_in(2) {
+                        state_step(number, values, q, l, Transition { to, ..edge });
+                    }
+                }
+            }
+        }
+    }
+}
+
+fn verdict_only(random: &mut Random, verdict: &str) -> Vec<u8> {
+    let mut lines = Lines::new(random, verdict, Vec::new());
+    if random.one_in(3) {
+        lines.damage(random, 9);
+    }
+    lines.text(random)
+}
+
+fn table_text(random: &mut Random, plan: &Plan, n: usize, m: usize) -> Vec<u8> {
+    let mut values = plan.values(random, n, m);
+    let number = Numbering::new(&plan.reference, n, m);
+    if random.one_in(3) {
+        another_table(random, &number, &mut values);
+    }
+    let literals = literals(random, &number, &values);
+    let mut lines = Lines::new(random, "SATISFIABLE", literals);
+    if random.below(100) < 45 {
+        lines.damage(random, number.variables());
+    }
+    let mut text = lines.text(random);
+    if random.one_in(8) {
+        damage_bytes(random, &mut text);
+    }
+    text
+}
+
+/// Steps and marks that are another table, or none.
+fn another_table(random: &mut Random, number: &Numbering, values: &mut [bool]) {
+    for _ in 0..random.within(1, 3) {
+        let variable = random.within(1, number.steps_and_marks());
+        values[variable] = !values[variable];
+    }
+}
+
+/// All literals, or those without a minus, or those of steps and marks and some of paths.
+fn literals(random: &mut Random, number: &Numbering, values: &[bool]) -> Vec<String> {
+    let mode = random.below(4);
+    let named = |variable: &usize| match mode {
+        0 => true,
+        1 => values[*variable],
+        _ => *variable <= number.steps_and_marks() || random.one_in(40),
+    };
+    let variables: Vec<usize> = (1..values.len()).filter(named).collect();
+    let literal = |&variable: &usize| if values[variable] { format!("{variable}") } else { format!("-{variable}") };
+    let mut literals: Vec<String> = variables.iter().map(literal).collect();
+    if random.one_in(3) {
+        random.shuffle(&mut literals);
+    }
+    literals
+}
+
+// ---------------------------------------------------------------------------------------
+// Lines
+
+/// Lines as lists of tokens; a line without tokens is empty.
+struct Lines {
+    lines: Vec<Vec<String>>,
+    ending: &'static str,
+}
+
+impl Lines {
+    /// The `s` line before, after or between the `v` lines, with `c` lines and empty lines.
+    fn new(random: &mut Random, verdict: &str, literals: Vec<String>) -> Lines {
+        let mut lines = if verdict == "SATISFIABLE" { v_lines(random, literals) } else { Vec::new() };
+        let between = random.below(lines.len() + 1);
+        let at = random.pick(&[0, 0, lines.len(), between]);
+        lines.insert(at, vec!["s".to_string(), verdict.to_string()]);
+        for _ in 0..random.below(4) {
+            let extra = match random.below(4) {
+                0 => vec![],
+                1 => vec!["c".to_string()],
+                2 => vec!["c s SATISFIABLE\r".to_string()],
+                _ => vec!["cv 1 2 0 \u{fc}\t".to_string()],
+            };
+            lines.insert(random.below(lines.len() + 1), extra);
+        }
+        Lines { lines, ending: "\n" }
+    }
+
+    fn text(&self, random: &mut Random) -> Vec<u8> {
+        let wide = random.one_in(4);
+        let mut text = String::new();
+        for (at, line) in self.lines.iter().enumerate() {
+            text += &one_line(random, line, wide);
+            if at + 1 < self.lines.len() || random.below(4) > 0 {
+                text += self.ending;
+            }
+        }
+        text.into_bytes()
+    }
+
+    fn of(&self, kind: &str) -> Vec<usize> {
+        (0..self.lines.len()).filter(|&at| self.lines[at].first().map(String::as_str) == Some(kind)).collect()
+    }
+
+    fn damage(&mut self, random: &mut Random, variables: usize) {
+        let v_lines = self.of("v");
+        if v_lines.is_empty() || random.one_in(4) {
+            return self.damage_lines(random);
+        }
+        let line = random.pick(&v_lines);
+        let at = random.within(1, self.lines[line].len());
+        let (past, huge) = ((variables + 1).to_string(), "9".repeat(random.within(9, 25)));
+        let odd =
+            ["0", "-0", "01", "-01", "+1", "--1", "-", "1-", "9x", "x", "1", "-1", "2", "0x1", "1.0", &past, &huge];
+        match random.below(5) {
+            0 if at < self.lines[line].len() => drop(self.lines[line].remove(at)),
+            1 if at < self.lines[line].len() => {
+                let again = self.lines[line][at].clone();
+                self.lines[random.pick(&v_lines)].push(again);
+            }
+            2 if at < self.lines[line].len() => self.lines[line][at] = random.pick(&odd).to_string(),
+            _ => self.lines[line].insert(at, random.pick(&odd).to_string()),
+        }
+    }
+
+    fn damage_lines(&mut self, random: &mut Random) {
+        let at = random.below(self.lines.len());
+        match random.below(8) {
+            0 => self.ending = "\r\n",
+            1 => drop(self.lines.remove(at)),
+            2 => self.lines.insert(at, self.lines[at].clone()),
+            3 => self.lines.insert(at, vec![random.pick(&[" ", "\t", "\r", "x", "S", "p cnf 1 1"]).to_string()]),
+            4 => self.lines.insert(at, vec!["v".to_string()]),
+            5 => {
+                let odd =
+                    ["SATISFIABLE", "UNSATISFIABLE", "UNKNOWN", "SAT", "satisfiable", "UNSATISFIABLEX", "UN", "1"];
+                let word = random.pick(&odd).to_string();
+                let line = *self.of("s").first().unwrap_or(&at);
+                self.lines[line] = vec!["s".to_string(), word];
+            }
+            6 => self.lines.swap(at, 0),
+            _ => self.lines[at].insert(0, " ".to_string()),
+        }
+    }
+}
+
+/// "`v` lines hold literals, perhaps none .. the last of all being 0"
+fn v_lines(random: &mut Random, mut literals: Vec<String>) -> Vec<Vec<String>> {
+    literals.push("0".to_string());
+    let longest = random.pick(&[1, 3, 10, 10, 1000]);
+    let mut lines = vec![vec!["v".to_string()]];
+    for literal in literals {
+        if lines.last().unwrap().len() > random.within(0, longest) {
+            lines.push(vec!["v".to_string()]);
+        }
+        lines.last_mut().unwrap().push(literal);
+    }
+    if random.one_in(5) {
+        lines.push(vec!["v".to_string()]);
+    }
+    lines
+}
+
+fn one_line(random: &mut Random, tokens: &[String], wide: bool) -> String {
+    let mut line = String::new();
+    for (at, token) in tokens.iter().enumerate() {
+        if at > 0 {
+            line += if wide { random.pick(&[" ", "  ", "\t", " \t "]) } else { " " };
+        }
+        line += token;
+    }
+    let may_end = tokens.first().is_some_and(|first| first == "s" || first == "v");
+    if may_end && random.one_in(if wide { 2 } else { 30 }) {
+        line += random.pick(&[" ", "\t", "  "]);
+    }
+    line
+}
+
+fn damage_bytes(random: &mut Random, text: &mut Vec<u8>) {
+    let at = random.below(text.len());
+    let byte = random.pick(b" \t\n\r0123456789-svcSUA\x00\xff");
+    match random.below(4) {
+        0 => text[at] = byte,
+        1 => drop(text.remove(at)),
+        2 => text.insert(at, byte),
+        _ => text.truncate(at),
+    }
+}
+
+// ---------------------------------------------------------------------------------------
+// Chains of answers
+
+/// A reference and answers to the questions that the search puts one after the other; the last
+/// may be refused, and a finished search may be told one more.
+pub fn search_case(random: &mut Random) -> (Automaton, Vec<Vec<u8>>) {
+    let mut plan = Plan::new(random);
+    if random.one_in(2) {
+        let further = random.pick(&[1, 2, 3, 4, 5, 12]);
+        let more = (plan.reference.states() + further).min(MAX_STATES);
+        plan.reference = with_copies(random, &plan.reference, more).0;
+    }
+    let mut search = Search::new(&plan.reference);
+    let mut answers = Vec::new();
+    for _ in 0..random.within(0, 10) {
+        if search.finished {
+            break;
+        }
+        let answer = next_answer(random, &plan, search.n, search.m);
+        let refused = search.answer(&answer).is_err();
+        answers.push(answer);
+        if refused {
+            return (plan.reference.clone(), answers);
+        }
+    }
+    if search.finished && random.one_in(5) {
+        answers.push(verdict_text(random.pick(&["UNSATISFIABLE", "UNKNOWN"])));
+    }
+    (plan.reference.clone(), answers)
+}
+
+fn verdict_text(verdict: &str) -> Vec<u8> {
+    format!("s {verdict}\n").into_bytes()
+}
+
+fn next_answer(random: &mut Random, plan: &Plan, n: usize, m: usize) -> Vec<u8> {
+    let possible = n >= plan.core.states() && m >= plan.core.sets;
+    match random.below(20) {
+        0 => verdict_text("UNKNOWN"),
+        1 if random.one_in(2) => b"s SATISFIABLE\nv 0\n".to_vec(),
+        2 if possible => table_text(random, plan, n, m),
+        3..=15 if possible => stated(random, plan, n, m),
+        _ => verdict_text("UNSATISFIABLE"),
+    }
+}
+
+/// The steps and marks of a table that agrees, or now and then of another, on one line.
+fn stated(random: &mut Random, plan: &Plan, n: usize, m: usize) -> Vec<u8> {
+    let number = Numbering::new(&plan.reference, n, m);
+    let mut values = plan.values(random, n, m);
+    if random.one_in(12) {
+        another_table(random, &number, &mut values);
+    }
+    let literals: String = (1..=number.steps_and_marks()).filter(|&v| values[v]).map(|v| format!("{v} ")).collect();
+    format!("s SATISFIABLE\nv {literals}0\n").into_bytes()
+}
+
+#[cfg(test)]
+mod tests {
+    use super::*;
+    use crate::clauses::tests::{list, satisfies};
+    use crate::clauses::File;
+    use crate::decode::{decode, Decoded};
+
+    #[test]
+    fn planned_values_satisfy_the_list() {
+        let mut random = Random::new(6);
+        for _ in 0..30 {
+            let plan = Plan::new(&mut random);
+            let (n, m) = (plan.core.states() + random.below(2), plan.core.sets);
+            let values = plan.values(&mut random, n, m);
+            assert!(satisfies(&values, &list(&File::new(&plan.reference, n, m))));
+        }
+    }
+
+    #[test]
+    fn all_answers_of_the_decoder_occur() {
+        let mut random = Random::new(7);
+        let mut count = [0; 13];
+        let mut said = [0; 3];
+        for _ in 0..1500 {
+            let case = solver_case(&mut random);
+            match decode(&case.reference, case.n as u64, case.m as u64, &case.text[..]) {
+                Ok(Decoded::Table(_)) => said[0] += 1,
+                Ok(Decoded::None) => said[1] += 1,
+                Ok(Decoded::Unknown) => said[2] += 1,
+                Ok(Decoded::Differs(_, word)) => count[word.refusal().number as usize] += 1,
+                Err(refusal) => count[refusal.number as usize] += 1,
+            }
+        }
+        assert!(said.iter().all(|&times| times > 50), "{said:?}");
+        assert!(count[8..].iter().all(|&times| times > 20), "{count:?}");
+    }
+
+    #[test]
+    fn chains_reach_all_ends() {
+        let mut random = Random::new(8);
+        let mut count = [0; 4];
+        for _ in 0..600 {
+            let (reference, answers) = search_case(&mut random);
+            let mut search = Search::new(&reference);
+            let refused = answers.iter().any(|answer| search.answer(answer).is_err());
+            let end = if refused { 0 } else { 1 + search.finished as usize + search.open as usize };
+            count[end] += 1;
+        }
+        assert!(count.iter().all(|&times| times > 20), "{count:?}");
+    }
+}

@@ -1,0 +1,230 @@
+//! A second program for the service-table reducer, written from document 01 alone, with which
+//! the first one is compared. It shares no code with it.
+//!
+//!     normalize < FILE
+//!     clauses N M < REFERENCE
+//!     compare FIRST SECOND
+//!     check FIRST SECOND PRINTED
+//!     decode REFERENCE N M < SOLVER-OUTPUT
+//!     check-decode REFERENCE N M PRINTED < SOLVER-OUTPUT
+//!     search REFERENCE [ANSWER-FILE ..]
+//!     check-search REFERENCE PRINTED [ANSWER-FILE ..]
+//!     generate hoa|pairs|solver|search SEED COUNT DIRECTORY
+//!
+//! A refusal is one line `refused NUMBER A B` on standard output. The three `check` calls read
+//! what the first program printed for the same input and print `ok` or what is wrong with it.
+
+mod automaton;
+mod check;
+mod clauses;
+mod compare;
+mod decode;
+mod generate;
+mod generate_hoa;
+mod generate_solver;
+mod hoa;
+mod search;
+mod solver;
+
+use automaton::{judge_sizes, Automaton, Refusal};
+use decode::Decoded;
+use std::io::{self, BufWriter, Read, Write};
+use std::{env, fs, process};
+
+/// Why there is no answer.
+enum Problem {
+    Refused(Refusal),
+    /// Bad arguments, or a file that cannot be read.
+    Unusable(String),
+}
+
+impl From<Refusal> for Problem {
+    fn from(refusal: Refusal) -> Problem {
+        Problem::Refused(refusal)
+    }
+}
+
+type Printed = Result<Vec<u8>, Problem>;
+
+fn main() {
+    let arguments: Vec<String> = env::args().skip(1).collect();
+    let words: Vec<&str> = arguments.iter().map(String::as_str).collect();
+    let printed = match words[..] {
+        ["normalize"] => normalize(),
+        ["clauses", n, m] => print_clauses(n, m),
+        ["compare", first, second] => compare_files(first, second),
+        ["check", first, second, printed] => check_compare(first, second, printed),
+        ["decode", reference, n, m] => decode_input(reference, n, m),
+        ["check-decode", reference, n, m, printed] => check_decode(reference, n, m, printed),
+        ["search", reference, ref answers @ ..] => search_answers(reference, answers),
+        ["check-search", reference, printed, ref answers @ ..] => check_search(reference, printed, answers),
+        ["generate", kind, seed, count, directory] => generate_files(kind, seed, count, directory),
+        _ => Err(Problem::Unusable("the calls are listed at the head of main.rs".to_string())),
+    };
+    show(printed);
+}
+
+fn show(printed: Printed) {
+    let text = match printed {
+        Ok(text) => text,
+        Err(Problem::Refused(refusal)) => format!("{refusal}\n").into_bytes(),
+        Err(Problem::Unusable(message)) => {
+            eprintln!("{message}");
+            process::exit(1);
+        }
+    };
+    // A reader that has gone away needs nothing more.
+    let _ = io::stdout().write_all(&text);
+}
+
+// ---------------------------------------------------------------------------------------
+// Files and arguments
+
+fn file(name: &str) -> Result<Vec<u8>, Problem> {
+    fs::read(name).map_err(|error| Problem::Unusable(format!("{name}: {error}")))
+}
+
+fn input() -> Result<Vec<u8>, Problem> {
+    let mut text = Vec::new();
+    match io::stdin().read_to_end(&mut text) {
+        Ok(_) => Ok(text),
+        Err(error) => Err(Problem::Unusable(format!("standard input: {error}"))),
+    }
+}
+
+fn number(word: &str) -> Result<u64, Problem> {
+    let digits = !word.is_empty() && word.bytes().all(|byte| byte.is_ascii_digit());
+    let value = if digits { word.parse().ok() } else { None };
+    value.ok_or_else(|| Problem::Unusable(format!("{word} is no number")))
+}
+
+fn automaton(name: &str) -> Result<Automaton, Problem> {
+    Ok(hoa::read(&file(name)?)?)
+}
+
+// ---------------------------------------------------------------------------------------
+// The calls
+
+fn normalize() -> Printed {
+    Ok(hoa::write(&hoa::read(&input()?)?))
+}
+
+fn print_clauses(n: &str, m: &str) -> Printed {
+    let (n, m) = (number(n)?, number(m)?);
+    let reference = hoa::read(&input()?)?;
+    let (n, m) = judge_sizes(n, m)?;
+    let mut out = BufWriter::with_capacity(1 << 16, io::stdout().lock());
+    // A reader that has gone away needs nothing more.
+    let _ = clauses::File::new(&reference, n, m).print(&mut out).and_then(|()| out.flush());
+    Ok(Vec::new())
+}
+
+fn compare_files(first: &str, second: &str) -> Printed {
+    let (first, second) = (file(first)?, file(second)?);
+    let comparison = compare::compare(&hoa::read(&first)?, &hoa::read(&second)?)?;
+    Ok(check::comparison_text(&comparison).into_bytes())
+}
+
+fn decode_input(reference: &str, n: &str, m: &str) -> Printed {
+    let decoded = decoded_input(reference, n, m)?;
+    Ok(decoded_text(&decoded))
+}
+
+fn decoded_input(reference: &str, n: &str, m: &str) -> Result<Decoded, Problem> {
+    let (n, m) = (number(n)?, number(m)?);
+    Ok(decode::decode(&automaton(reference)?, n, m, io::stdin().lock())?)
+}
+
+fn decoded_text(decoded: &Decoded) -> Vec<u8> {
+    match decoded {
+        Decoded::Table(table) => hoa::write(table),
+        Decoded::None => b"none\n".to_vec(),
+        Decoded::Unknown => b"unknown\n".to_vec(),
+        Decoded::Differs(_, word) => check::differs_text(word).into_bytes(),
+    }
+}
+
+fn search_answers(reference: &str, answers: &[&str]) -> Printed {
+    let reference = automaton(reference)?;
+    let mut search = search::Search::new(&reference);
+    replay(&mut search, answers)?;
+    Ok(search_text(&search))
+}
+
+fn replay(search: &mut search::Search, answers: &[&str]) -> Result<(), Problem> {
+    for answer in answers {
+        search.answer(&file(answer)?)?;
+    }
+    Ok(())
+}
+
+fn search_text(search: &search::Search) -> Vec<u8> {
+    if !search.finished {
+        return format!("ask {} {}\n", search.n, search.m).into_bytes();
+    }
+    let first: &[u8] = if search.open { b"finished open\n" } else { b"finished\n" };
+    [first, &hoa::write(&search.best)].concat()
+}
+
+fn generate_files(kind: &str, seed: &str, count: &str, directory: &str) -> Printed {
+    let (seed, count) = (number(seed)?, number(count)? as usize);
+    generate::generate(kind, seed, count, directory.as_ref())
+        .map_err(|error| Problem::Unusable(format!("{directory}: {error}")))?;
+    Ok(Vec::new())
+}
+
+// ---------------------------------------------------------------------------------------
+// Checks of printed answers
+
+fn verdict(checked: Result<(), String>) -> Printed {
+    Ok(match checked {
+        Ok(()) => b"ok\n".to_vec(),
+        Err(wrong) => format!("{wrong}\n").into_bytes(),
+    })
+}
+
+/// Where the answer due is a refusal, the printed one is that line.
+fn check_refusal<T>(due: Result<T, Problem>, printed: &[u8]) -> Result<Result<T, Result<(), String>>, Problem> {
+    match due {
+        Ok(answer) => Ok(Ok(answer)),
+        Err(Problem::Refused(refusal)) => Ok(Err(check::equal(printed, format!("{refusal}\n").as_bytes()))),
+        Err(unusable) => Err(unusable),
+    }
+}
+
+fn check_compare(first: &str, second: &str, printed: &str) -> Printed {
+    let printed = file(printed)?;
+    let (first, second) = (file(first)?, file(second)?);
+    let read = || -> Result<_, Problem> { Ok((hoa::read(&first)?, hoa::read(&second)?)) };
+    verdict(match check_refusal(read(), &printed)? {
+        Ok((first, second)) => check::check_comparison(&first, &second, &printed),
+        Err(checked) => checked,
+    })
+}
+
+fn check_decode(reference: &str, n: &str, m: &str, printed: &str) -> Printed {
+    let printed = file(printed)?;
+    verdict(match check_refusal(decoded_input(reference, n, m), &printed)? {
+        Ok(Decoded::Differs(table, _)) => check::check_differs(&table, &automaton(reference)?, &printed),
+        Ok(decoded) => check::equal(&printed, &decoded_text(&decoded)),
+        Err(checked) => checked,
+    })
+}
+
+fn check_search(reference: &str, printed: &str, answers: &[&str]) -> Printed {
+    let printed = file(printed)?;
+    let reference = match check_refusal(automaton(reference), &printed)? {
+        Ok(reference) => reference,
+        Err(checked) => return verdict(checked),
+    };
+    let mut search = search::Search::new(&reference);
+    let replayed = replay(&mut search, answers);
+    if let Err(Problem::Refused(Refusal { number: 12, .. })) = replayed {
+        let (pairs, sets) = (search.n * reference.states(), search.m.max(reference.sets));
+        return verdict(check::check_lengths(pairs, sets, &printed));
+    }
+    verdict(match check_refusal(replayed, &printed)? {
+        Ok(()) => check::equal(&printed, &search_text(&search)),
+        Err(checked) => checked,
+    })
+}

@@ -1,0 +1,170 @@
+//! The search for fewer states, replayed over solver answers.
+
+use crate::automaton::*;
+use crate::decode::{decode, Decoded};
+
+pub struct Search<'a> {
+    reference: &'a Automaton,
+    pub best: Automaton,
+    pub n: usize,
+    pub m: usize,
+    /// Whether this m brought a table.
+    brought: bool,
+    pub finished: bool,
+    pub open: bool,
+}
+
+impl<'a> Search<'a> {
+    /// "It starts at m = s, n = the smaller of r - 1 and 8, best = the reference; with r = 1 it is
+    /// finished at the start."
+    pub fn new(reference: &'a Automaton) -> Search<'a> {
+        let n = (reference.states() - 1).min(MAX_CANDIDATE_STATES);
+        let (m, best) = (reference.sets, reference.clone());
+        Search { reference, best, n, m, brought: false, finished: n == 0, open: false }
+    }
+
+    /// One solver answer to the question that now stands. "A finished search .. says so and no
+    /// longer changes"; "a refused one changes nothing".
+    pub fn answer(&mut self, text: &[u8]) -> Result<(), Refusal> {
+        if self.finished {
+            return Ok(());
+        }
+        match decode(self.reference, self.n as u64, self.m as u64, text)? {
+            Decoded::Table(table) => self.found(table),
+            Decoded::None => self.none(),
+            Decoded::Unknown => self.unknown(),
+            Decoded::Differs(_, word) => return Err(word.refusal()),
+        }
+        Ok(())
+    }
+
+    /// "Found: best changes, n falls by one; at 0 it finishes." The table comes from the decoder,
+    /// so it has n states and m sets and was compared with the reference.
+    fn found(&mut self, table: Automaton) {
+        self.best = table;
+        self.brought = true;
+        self.n -= 1;
+        self.finished = self.n == 0;
+    }
+
+    /// "None: if this m brought a table, m rises by one with n one below best; otherwise, or past
+    /// 4, it finishes."
+    fn none(&mut self) {
+        if !self.brought || self.m == MAX_SETS {
+            self.finished = true;
+            return;
+        }
+        self.m += 1;
+        self.n = self.best.states() - 1;
+        self.brought = false;
+    }
+
+    /// "Unknown: it finishes, marked open."
+    fn unknown(&mut self) {
+        self.finished = true;
+        self.open = true;
+    }
+}
+
+#[cfg(test)]
+mod tests {
+    use super::*;
+
+    const NONE: &[u8] = b"s UNSATISFIABLE\n";
+    const UNKNOWN: &[u8] = b"s UNKNOWN\n";
+
+    /// No propositions; the states go round, and every word is accepted.
+    fn round(states: usize, sets: usize) -> Automaton {
+        let marks = all_marks(sets);
+        let table = (0..states).map(|q| vec![Transition { to: (q + 1) % states, marks }]).collect();
+        Automaton { start: 0, sets, names: vec![], table }
+    }
+
+    /// The answer that states `round(n, m)`, for L = 1.
+    fn says_round(n: usize, m: usize) -> Vec<u8> {
+        let mut text = b"s SATISFIABLE\nv".to_vec();
+        for q in 0..n {
+            let p = (q + 1) % n;
+            text.extend(format!(" {}", 1 + q * n + p).bytes());
+            for i in 0..m {
+                text.extend(format!(" {}", n * n + 1 + (q * m + i) * n + p).bytes());
+            }
+        }
+        text.extend(b" 0\n");
+        text
+    }
+
+    fn asked(search: &Search) -> (usize, usize, bool, bool) {
+        (search.n, search.m, search.finished, search.open)
+    }
+
+    #[test]
+    fn starts_below_the_reference() {
+        assert_eq!(asked(&Search::new(&round(1, 2))), (0, 2, true, false));
+        assert_eq!(asked(&Search::new(&round(5, 1))), (4, 1, false, false));
+        assert_eq!(asked(&Search::new(&round(9, 1))), (8, 1, false, false));
+        assert_eq!(asked(&Search::new(&round(16, 0))), (8, 0, false, false));
+    }
+
+    #[test]
+    fn found_falls_to_nothing() {
+        let reference = round(3, 1);
+        let mut search = Search::new(&reference);
+        search.answer(&says_round(2, 1)).unwrap();
+        assert_eq!(asked(&search), (1, 1, false, false));
+        search.answer(&says_round(1, 1)).unwrap();
+        assert_eq!(asked(&search), (0, 1, true, false));
+        assert_eq!(search.best, round(1, 1));
+        // A finished search no longer changes, whatever it is told.
+        search.answer(UNKNOWN).unwrap();
+        search.answer(b"x").unwrap();
+        assert_eq!(asked(&search), (0, 1, true, false));
+    }
+
+    #[test]
+    fn none_without_a_table_finishes() {
+        let reference = round(3, 1);
+        let mut search = Search::new(&reference);
+        search.answer(NONE).unwrap();
+        assert_eq!(asked(&search), (2, 1, true, false));
+        assert_eq!(search.best, reference);
+    }
+
+    #[test]
+    fn none_after_a_table_takes_more_sets() {
+        let reference = round(5, 3);
+        let mut search = Search::new(&reference);
+        search.answer(&says_round(4, 3)).unwrap();
+        search.answer(NONE).unwrap();
+        assert_eq!(asked(&search), (3, 4, false, false));
+        search.answer(&says_round(3, 4)).unwrap();
+        assert_eq!(asked(&search), (2, 4, false, false));
+        // Past 4 it finishes; m and n stay.
+        search.answer(NONE).unwrap();
+        assert_eq!(asked(&search), (2, 4, true, false));
+        assert_eq!(search.best, round(3, 4));
+    }
+
+    #[test]
+    fn none_twice_finishes() {
+        let reference = round(5, 1);
+        let mut search = Search::new(&reference);
+        search.answer(&says_round(4, 1)).unwrap();
+        search.answer(NONE).unwrap();
+        search.answer(NONE).unwrap();
+        assert_eq!(asked(&search), (3, 2, true, false));
+    }
+
+    #[test]
+    fn unknown_and_refused() {
+        let reference = round(3, 1);
+        let mut search = Search::new(&reference);
+        assert_eq!(search.answer(b"x"), Err(Refusal::new(9, 0, 0)));
+        assert_eq!(search.answer(b"s SATISFIABLE\nv 0\n"), Err(Refusal::new(11, 0, 0)));
+        // The right steps without marks: the table accepts nothing.
+        assert_eq!(search.answer(b"s SATISFIABLE\nv 2 3 0\n").unwrap_err().number, 12);
+        assert_eq!(asked(&search), (2, 1, false, false));
+        search.answer(UNKNOWN).unwrap();
+        assert_eq!(asked(&search), (2, 1, true, true));
+    }
+}
