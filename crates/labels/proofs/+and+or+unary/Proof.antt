@@ -1,0 +1,369 @@
+-- `or`, `and` and `unary`, which call one another, meet their contracts. The text that is left falls; at the same offset `or` stands above `and`, and `and` above `unary`.
+use mathlib.Core.Path.{_≡_, refl, sym, subst}
+use native.Mathlib.Omega.{arith}
+use borrow.Author.Needs.{needs}
+use lib.ListN.{length}
+use denote.Ref.{now}
+use Rattle.hoa_text.specs.Labels.{conjunction, disjunction, conjunctions, disjunctions}
+use Rattle.hoa_text.specs.Labels as Labels
+use Rattle.hoa_text.specs.LabelProgress.{and-shrinks, or-shrinks}
+use Rattle.hoa_text.specs.Offsets.{left}
+use Rattle.labels.specs.Answers.{Read, Answers}
+use Rattle.labels.proofs.Laws.{letters-and, letters-or, Joined, joined-first, refused-first, joined-done, joined-refused, joined-again, denied-deep, denied-refused, denied-read, opened-deep, opened-refused, opened-read, atom-first}
+use Prim.Native.Nat.{ℕ, _+_, _-_, _*_, _<_}
+use borrow.Fn.Kinds.{In}
+use borrow.Fn.PlainCycle.{Measures, is, falls, and}
+use Rattle.labels.proofs.and.Reads as and′
+use Rattle.labels.proofs.and.Kinds as and-kinds
+use Rattle.labels.proofs.+and+or+unary.Lts-and as and-lts
+use Rattle.labels.proofs.or.Reads as or
+use Rattle.labels.proofs.or.Kinds as or-kinds
+use Rattle.labels.proofs.+and+or+unary.Lts-or as or-lts
+use Rattle.labels.proofs.unary.Reads as unary
+use Rattle.labels.proofs.unary.Kinds as unary-kinds
+use Rattle.labels.proofs.+and+or+unary.Lts-unary as unary-lts
+use Rattle.labels.proofs.atoms.atom.Reads as atom-reads
+use Rattle.labels.proofs.closed.Reads as closed-reads
+use Rattle.scan.proofs.behind.Reads as behind-reads
+use Rattle.labels.proofs.+and+or+unary.{statement}
+use Rattle.labels.proofs.+and+or+unary.Tie.{close}
+
+abbrev μ-and : Measures 1 and-kinds.ps ℕ
+μ-and κs a = (length (a .0 .now) - a .1 .0) * 3 + 1
+
+abbrev μ-or : Measures 1 or-kinds.ps ℕ
+μ-or κs a = (length (a .0 .now) - a .1 .0) * 3 + 2
+
+abbrev μ-unary : Measures 1 unary-kinds.ps ℕ
+μ-unary κs a = (length (a .0 .now) - a .1 .0) * 3
+
+abbrev and-at : ℕ → In 1 and-kinds.ps
+and-at t = and 1 and-kinds.ps (is 1 and-kinds.ps μ-and t) and′.Pre
+
+abbrev and-below : ℕ → In 1 and-kinds.ps
+and-below t = and 1 and-kinds.ps (falls 1 and-kinds.ps _<_ μ-and t) and′.Pre
+
+abbrev or-at : ℕ → In 1 or-kinds.ps
+or-at t = and 1 or-kinds.ps (is 1 or-kinds.ps μ-or t) or.Pre
+
+abbrev or-below : ℕ → In 1 or-kinds.ps
+or-below t = and 1 or-kinds.ps (falls 1 or-kinds.ps _<_ μ-or t) or.Pre
+
+abbrev unary-at : ℕ → In 1 unary-kinds.ps
+unary-at t = and 1 unary-kinds.ps (is 1 unary-kinds.ps μ-unary t) unary.Pre
+
+abbrev unary-below : ℕ → In 1 unary-kinds.ps
+unary-below t = and 1 unary-kinds.ps (falls 1 unary-kinds.ps _<_ μ-unary t) unary.Pre
+
+abbrev and-calls : ℕ → and-lts.Claims
+and-calls t = (unary-below t, unary.Post, behind-reads.Asked, behind-reads.Learnt)
+
+abbrev or-calls : ℕ → or-lts.Claims
+or-calls t = (and-below t, and′.Post, behind-reads.Asked, behind-reads.Learnt)
+
+abbrev unary-calls : ℕ → unary-lts.Claims
+unary-calls t = (
+  behind-reads.Asked,
+  behind-reads.Learnt,
+  unary-below t,
+  unary.Post,
+  or-below t,
+  or.Post,
+  closed-reads.Asked,
+  closed-reads.Learnt,
+  atom-reads.Asked,
+  atom-reads.Learnt,
+)
+
+abbrev and-Inv-loop : and-lts.InvT-loop
+and-Inv-loop text at propositions depth first next letters₀ end₀ letters end = Joined "&" conjunction (Labels.unary depth propositions) text at (conjunctions (Labels.unary depth propositions) (left text at)) letters end
+
+abbrev and-μ-loop : and-lts.MeasureT-loop
+and-μ-loop text at propositions depth first next letters₀ end₀ letters end = length text - end
+
+and-unary-requires : (t : ℕ) → and-lts.Need-unary-requires (and-calls t) (and-at t) and′.Post and-Inv-loop and-μ-loop
+and-unary-requires t c κs = search needs
+
+and-enum-known-refusal : (t : ℕ) → and-lts.Need-enum-known-refusal (and-calls t) (and-at t) and′.Post and-Inv-loop and-μ-loop
+and-enum-known-refusal t c = search needs
+
+and-enum-known-first : (t : ℕ) → and-lts.Need-enum-known-first (and-calls t) (and-at t) and′.Post and-Inv-loop and-μ-loop
+and-enum-known-first t c = search needs
+
+and-loop-holds : (t : ℕ) → and-lts.Need-loop-holds (and-calls t) (and-at t) and′.Post and-Inv-loop and-μ-loop
+and-loop-holds t c =
+    let a = c .before .before .before .before .before .args in
+    let g = c .before .first .given in
+    joined-first "&" 38 refl conjunction (Labels.unary (a .depth) (a .propositions)) (and-shrinks (a .depth) (a .propositions)) (now (a .text)) (a .at) _ _ (subst (Answers (now (a .text)) (a .at) ((Labels.unary (a .depth) (a .propositions)) (left (now (a .text)) (a .at)))) (g .1) (c .before .before .before .unary .ensures))
+
+and-behind-requires : (t : ℕ) → and-lts.Need-behind-requires (and-calls t) (and-at t) and′.Post and-Inv-loop and-μ-loop
+and-behind-requires t c κs = search needs
+
+and-returns : (t : ℕ) → and-lts.Need-returns (and-calls t) (and-at t) and′.Post and-Inv-loop and-μ-loop
+and-returns t c =
+    let a = c .before .before .before .before .before .before .before .before .args in
+    joined-done "&" 38 refl conjunction (Labels.unary (a .depth) (a .propositions)) (and-shrinks (a .depth) (a .propositions)) (now (a .text)) (a .at) _ _ _ _ (c .before .before .loop .inv) (c .before .behind .ensures) (c .if1 .taken)
+
+and-unary-requires-2 : (t : ℕ) → and-lts.Need-unary-requires-2 (and-calls t) (and-at t) and′.Post and-Inv-loop and-μ-loop
+and-unary-requires-2 t c κs =
+    let b = c .before .behind .ensures in
+    (omega (arith, c .before .before .before .before .before .before .before .before .pre .0, b .from, b .to (c .if1 .left), c .before .before .loop .inv .from), tt)
+
+and-enum-known-refusal-2 : (t : ℕ) → and-lts.Need-enum-known-refusal-2 (and-calls t) (and-at t) and′.Post and-Inv-loop and-μ-loop
+and-enum-known-refusal-2 t c = search needs
+
+and-returns-2 : (t : ℕ) → and-lts.Need-returns-2 (and-calls t) (and-at t) and′.Post and-Inv-loop and-μ-loop
+and-returns-2 t c =
+    let a = c .before .before .before .before .before .before .before .before .before .before .before .before .args in
+    let g = c .before .refusal2 .given in
+    joined-refused "&" 38 refl conjunction (Labels.unary (a .depth) (a .propositions)) (and-shrinks (a .depth) (a .propositions)) (now (a .text)) (a .at) _ _ _ _ (c .before .before .before .before .before .before .loop .inv) (c .before .before .before .before .before .behind .ensures) (c .before .before .before .before .if1 .left) _
+    (subst (Answers (now (a .text)) (c .before .before .before .before .before .behind .result) ((Labels.unary (a .depth) (a .propositions)) (left (now (a .text)) (c .before .before .before .before .before .behind .result)))) (g .1) (c .before .before .before .unary2 .ensures))
+
+and-enum-known-more : (t : ℕ) → and-lts.Need-enum-known-more (and-calls t) (and-at t) and′.Post and-Inv-loop and-μ-loop
+and-enum-known-more t c = search needs
+
+and-loop-less : (t : ℕ) → and-lts.Need-loop-less (and-calls t) (and-at t) and′.Post and-Inv-loop and-μ-loop
+and-loop-less t c =
+    let a = c .before .before .before .before .before .before .before .before .before .before .before .before .args in
+    let g = c .before .more .given in
+    let k : Read (now (a .text)) (c .before .before .before .before .before .behind .result) ((Labels.unary (a .depth) (a .propositions)) (left (now (a .text)) (c .before .before .before .before .before .behind .result))) (g .0 .0) (g .0 .1 .0) =
+    subst (Answers (now (a .text)) (c .before .before .before .before .before .behind .result) ((Labels.unary (a .depth) (a .propositions)) (left (now (a .text)) (c .before .before .before .before .before .behind .result)))) (g .1) (c .before .before .before .unary2 .ensures) in
+    omega (arith, k .from, k .to, c .before .before .before .before .before .behind .ensures .from)
+
+and-loop-again : (t : ℕ) → and-lts.Need-loop-again (and-calls t) (and-at t) and′.Post and-Inv-loop and-μ-loop
+and-loop-again t c =
+    let a = c .before .before .before .before .before .before .before .before .before .before .before .before .args in
+    let g = c .before .more .given in
+    let j = c .before .before .before .before .before .before .loop .inv in
+    let k : Read (now (a .text)) (c .before .before .before .before .before .behind .result) ((Labels.unary (a .depth) (a .propositions)) (left (now (a .text)) (c .before .before .before .before .before .behind .result))) (g .0 .0) (g .0 .1 .0) =
+    subst (Answers (now (a .text)) (c .before .before .before .before .before .behind .result) ((Labels.unary (a .depth) (a .propositions)) (left (now (a .text)) (c .before .before .before .before .before .behind .result)))) (g .1) (c .before .before .before .unary2 .ensures) in
+    joined-again "&" 38 refl conjunction (Labels.unary (a .depth) (a .propositions)) (and-shrinks (a .depth) (a .propositions)) (now (a .text)) (a .at) _ _ _ _ j (c .before .before .before .before .before .behind .ensures) (c .before .before .before .before .if1 .left) _ _ _ k (letters-and _ _ (j .formula) (k .formula) (j .letters) (k .letters))
+
+and-returns-3 : (t : ℕ) → and-lts.Need-returns-3 (and-calls t) (and-at t) and′.Post and-Inv-loop and-μ-loop
+and-returns-3 t c =
+    let a = c .before .before .before .before .before .args in
+    let g = c .before .refusal .given in
+    refused-first "&" 38 refl conjunction (Labels.unary (a .depth) (a .propositions)) (and-shrinks (a .depth) (a .propositions)) (now (a .text)) (a .at) _ (subst (Answers (now (a .text)) (a .at) ((Labels.unary (a .depth) (a .propositions)) (left (now (a .text)) (a .at)))) (g .1) (c .before .before .before .unary .ensures))
+
+abbrev or-Inv-loop : or-lts.InvT-loop
+or-Inv-loop text at propositions depth first next letters₀ end₀ letters end = Joined "|" disjunction (conjunctions (Labels.unary depth propositions)) text at (disjunctions (Labels.unary depth propositions) (left text at)) letters end
+
+abbrev or-μ-loop : or-lts.MeasureT-loop
+or-μ-loop text at propositions depth first next letters₀ end₀ letters end = length text - end
+
+or-and-requires : (t : ℕ) → or-lts.Need-and-requires (or-calls t) (or-at t) or.Post or-Inv-loop or-μ-loop
+or-and-requires t c κs = search needs
+
+or-enum-known-refusal : (t : ℕ) → or-lts.Need-enum-known-refusal (or-calls t) (or-at t) or.Post or-Inv-loop or-μ-loop
+or-enum-known-refusal t c = search needs
+
+or-enum-known-first : (t : ℕ) → or-lts.Need-enum-known-first (or-calls t) (or-at t) or.Post or-Inv-loop or-μ-loop
+or-enum-known-first t c = search needs
+
+or-loop-holds : (t : ℕ) → or-lts.Need-loop-holds (or-calls t) (or-at t) or.Post or-Inv-loop or-μ-loop
+or-loop-holds t c =
+    let a = c .before .before .before .before .before .args in
+    let g = c .before .first .given in
+    joined-first "|" 124 refl disjunction (conjunctions (Labels.unary (a .depth) (a .propositions))) (or-shrinks (a .depth) (a .propositions)) (now (a .text)) (a .at) _ _ (subst (Answers (now (a .text)) (a .at) ((conjunctions (Labels.unary (a .depth) (a .propositions))) (left (now (a .text)) (a .at)))) (g .1) (c .before .before .before .and .ensures))
+
+or-behind-requires : (t : ℕ) → or-lts.Need-behind-requires (or-calls t) (or-at t) or.Post or-Inv-loop or-μ-loop
+or-behind-requires t c κs = search needs
+
+or-returns : (t : ℕ) → or-lts.Need-returns (or-calls t) (or-at t) or.Post or-Inv-loop or-μ-loop
+or-returns t c =
+    let a = c .before .before .before .before .before .before .before .before .args in
+    joined-done "|" 124 refl disjunction (conjunctions (Labels.unary (a .depth) (a .propositions))) (or-shrinks (a .depth) (a .propositions)) (now (a .text)) (a .at) _ _ _ _ (c .before .before .loop .inv) (c .before .behind .ensures) (c .if1 .taken)
+
+or-and-requires-2 : (t : ℕ) → or-lts.Need-and-requires-2 (or-calls t) (or-at t) or.Post or-Inv-loop or-μ-loop
+or-and-requires-2 t c κs =
+    let b = c .before .behind .ensures in
+    (omega (arith, c .before .before .before .before .before .before .before .before .pre .0, b .from, b .to (c .if1 .left), c .before .before .loop .inv .from), tt)
+
+or-enum-known-refusal-2 : (t : ℕ) → or-lts.Need-enum-known-refusal-2 (or-calls t) (or-at t) or.Post or-Inv-loop or-μ-loop
+or-enum-known-refusal-2 t c = search needs
+
+or-returns-2 : (t : ℕ) → or-lts.Need-returns-2 (or-calls t) (or-at t) or.Post or-Inv-loop or-μ-loop
+or-returns-2 t c =
+    let a = c .before .before .before .before .before .before .before .before .before .before .before .before .args in
+    let g = c .before .refusal2 .given in
+    joined-refused "|" 124 refl disjunction (conjunctions (Labels.unary (a .depth) (a .propositions))) (or-shrinks (a .depth) (a .propositions)) (now (a .text)) (a .at) _ _ _ _ (c .before .before .before .before .before .before .loop .inv) (c .before .before .before .before .before .behind .ensures) (c .before .before .before .before .if1 .left) _
+    (subst (Answers (now (a .text)) (c .before .before .before .before .before .behind .result) ((conjunctions (Labels.unary (a .depth) (a .propositions))) (left (now (a .text)) (c .before .before .before .before .before .behind .result)))) (g .1) (c .before .before .before .and2 .ensures))
+
+or-enum-known-more : (t : ℕ) → or-lts.Need-enum-known-more (or-calls t) (or-at t) or.Post or-Inv-loop or-μ-loop
+or-enum-known-more t c = search needs
+
+or-loop-less : (t : ℕ) → or-lts.Need-loop-less (or-calls t) (or-at t) or.Post or-Inv-loop or-μ-loop
+or-loop-less t c =
+    let a = c .before .before .before .before .before .before .before .before .before .before .before .before .args in
+    let g = c .before .more .given in
+    let k : Read (now (a .text)) (c .before .before .before .before .before .behind .result) ((conjunctions (Labels.unary (a .depth) (a .propositions))) (left (now (a .text)) (c .before .before .before .before .before .behind .result))) (g .0 .0) (g .0 .1 .0) =
+    subst (Answers (now (a .text)) (c .before .before .before .before .before .behind .result) ((conjunctions (Labels.unary (a .depth) (a .propositions))) (left (now (a .text)) (c .before .before .before .before .before .behind .result)))) (g .1) (c .before .before .before .and2 .ensures) in
+    omega (arith, k .from, k .to, c .before .before .before .before .before .behind .ensures .from)
+
+or-loop-again : (t : ℕ) → or-lts.Need-loop-again (or-calls t) (or-at t) or.Post or-Inv-loop or-μ-loop
+or-loop-again t c =
+    let a = c .before .before .before .before .before .before .before .before .before .before .before .before .args in
+    let g = c .before .more .given in
+    let j = c .before .before .before .before .before .before .loop .inv in
+    let k : Read (now (a .text)) (c .before .before .before .before .before .behind .result) ((conjunctions (Labels.unary (a .depth) (a .propositions))) (left (now (a .text)) (c .before .before .before .before .before .behind .result))) (g .0 .0) (g .0 .1 .0) =
+    subst (Answers (now (a .text)) (c .before .before .before .before .before .behind .result) ((conjunctions (Labels.unary (a .depth) (a .propositions))) (left (now (a .text)) (c .before .before .before .before .before .behind .result)))) (g .1) (c .before .before .before .and2 .ensures) in
+    joined-again "|" 124 refl disjunction (conjunctions (Labels.unary (a .depth) (a .propositions))) (or-shrinks (a .depth) (a .propositions)) (now (a .text)) (a .at) _ _ _ _ j (c .before .before .before .before .before .behind .ensures) (c .before .before .before .before .if1 .left) _ _ _ k (letters-or _ _ (j .formula) (k .formula) (j .letters) (k .letters))
+
+or-returns-3 : (t : ℕ) → or-lts.Need-returns-3 (or-calls t) (or-at t) or.Post or-Inv-loop or-μ-loop
+or-returns-3 t c =
+    let a = c .before .before .before .before .before .args in
+    let g = c .before .refusal .given in
+    refused-first "|" 124 refl disjunction (conjunctions (Labels.unary (a .depth) (a .propositions))) (or-shrinks (a .depth) (a .propositions)) (now (a .text)) (a .at) _ (subst (Answers (now (a .text)) (a .at) ((conjunctions (Labels.unary (a .depth) (a .propositions))) (left (now (a .text)) (a .at)))) (g .1) (c .before .before .before .and .ensures))
+
+unary-behind-requires : (t : ℕ) → unary-lts.Need-behind-requires (unary-calls t) (unary-at t) unary.Post
+unary-behind-requires t c κs = search needs
+
+unary-sub-t15 : (t : ℕ) → unary-lts.Need-sub-t15 (unary-calls t) (unary-at t) unary.Post
+unary-sub-t15 t c = omega (arith, c .before .before .behind .ensures .from)
+
+unary-returns : (t : ℕ) → unary-lts.Need-returns (unary-calls t) (unary-at t) unary.Post
+unary-returns t c =
+    let a = c .before .before .before .before .args in
+    denied-deep (a .propositions) (now (a .text)) (a .at) _ (a .depth) (c .before .before .behind .ensures) (c .before .if1 .taken) (c .if2 .taken)
+
+unary-sub-unary : (t : ℕ) → unary-lts.Need-sub-unary (unary-calls t) (unary-at t) unary.Post
+unary-sub-unary t c = search needs
+
+unary-unary-requires : (t : ℕ) → unary-lts.Need-unary-requires (unary-calls t) (unary-at t) unary.Post
+unary-unary-requires t c κs =
+    let b = c .before .before .behind .ensures in
+    (omega (arith, c .before .before .before .before .pre .0, b .from, b .to (c .before .if1 .taken)), tt)
+
+unary-enum-known-refusal : (t : ℕ) → unary-lts.Need-enum-known-refusal (unary-calls t) (unary-at t) unary.Post
+unary-enum-known-refusal t c = search needs
+
+unary-enum-known-letters : (t : ℕ) → unary-lts.Need-enum-known-letters (unary-calls t) (unary-at t) unary.Post
+unary-enum-known-letters t c = search needs
+
+unary-returns-2 : (t : ℕ) → unary-lts.Need-returns-2 (unary-calls t) (unary-at t) unary.Post
+unary-returns-2 t c =
+    let a = c .before .before .before .before .before .before .before .before .args in
+    let g = c .before .refusal .given in
+    denied-refused (a .propositions) (now (a .text)) (a .at) _ (a .depth) (c .before .before .before .before .before .before .behind .ensures) (c .before .before .before .before .before .if1 .taken) (c .before .before .before .before .if2 .left) _
+    (subst (Answers (now (a .text)) (c .before .before .before .before .before .before .behind .result) (Labels.unary (a .depth - 1) (a .propositions) (left (now (a .text)) (c .before .before .before .before .before .before .behind .result)))) (g .1) (c .before .before .before .unary .ensures))
+
+unary-returns-3 : (t : ℕ) → unary-lts.Need-returns-3 (unary-calls t) (unary-at t) unary.Post
+unary-returns-3 t c =
+    let a = c .before .before .before .before .before .before .before .before .args in
+    let g = c .before .letters .given in
+    denied-read (a .propositions) (now (a .text)) (a .at) _ (a .depth) (c .before .before .before .before .before .before .behind .ensures) (c .before .before .before .before .before .if1 .taken) (c .before .before .before .before .if2 .left) _ _
+    (subst (Answers (now (a .text)) (c .before .before .before .before .before .before .behind .result) (Labels.unary (a .depth - 1) (a .propositions) (left (now (a .text)) (c .before .before .before .before .before .before .behind .result)))) (g .1) (c .before .before .before .unary .ensures))
+
+unary-behind-requires-2 : (t : ℕ) → unary-lts.Need-behind-requires-2 (unary-calls t) (unary-at t) unary.Post
+unary-behind-requires-2 t c κs = search needs
+
+unary-sub-t22 : (t : ℕ) → unary-lts.Need-sub-t22 (unary-calls t) (unary-at t) unary.Post
+unary-sub-t22 t c = omega (arith, c .before .before .behind2 .ensures .from)
+
+unary-returns-4 : (t : ℕ) → unary-lts.Need-returns-4 (unary-calls t) (unary-at t) unary.Post
+unary-returns-4 t c =
+    let a = c .before .before .before .before .before .before .args in
+    opened-deep (a .propositions) (now (a .text)) (a .at) _ _ (c .before .before .before .before .behind .ensures) (c .before .before .before .if1 .left) (a .depth) (c .before .before .behind2 .ensures) (c .before .if3 .taken) (c .if4 .taken)
+
+unary-sub-or : (t : ℕ) → unary-lts.Need-sub-or (unary-calls t) (unary-at t) unary.Post
+unary-sub-or t c = search needs
+
+unary-or-requires : (t : ℕ) → unary-lts.Need-or-requires (unary-calls t) (unary-at t) unary.Post
+unary-or-requires t c κs =
+    let b = c .before .before .behind2 .ensures in
+    (omega (arith, c .before .before .before .before .before .before .pre .0, b .from, b .to (c .before .if3 .taken)), tt)
+
+unary-enum-known-refusal-2 : (t : ℕ) → unary-lts.Need-enum-known-refusal-2 (unary-calls t) (unary-at t) unary.Post
+unary-enum-known-refusal-2 t c = search needs
+
+unary-enum-known-letters-2 : (t : ℕ) → unary-lts.Need-enum-known-letters-2 (unary-calls t) (unary-at t) unary.Post
+unary-enum-known-letters-2 t c = search needs
+
+unary-closed-requires : (t : ℕ) → unary-lts.Need-closed-requires (unary-calls t) (unary-at t) unary.Post
+unary-closed-requires t c κs = search needs
+
+unary-returns-5 : (t : ℕ) → unary-lts.Need-returns-5 (unary-calls t) (unary-at t) unary.Post
+unary-returns-5 t c =
+    let a = c .before .before .before .before .before .before .before .before .before .before .args in
+    let g = c .before .refusal2 .given in
+    opened-refused (a .propositions) (now (a .text)) (a .at) _ _ (c .before .before .before .before .before .before .before .before .behind .ensures) (c .before .before .before .before .before .before .before .if1 .left) (a .depth) (c .before .before .before .before .before .before .behind2 .ensures) (c .before .before .before .before .before .if3 .taken) (c .before .before .before .before .if4 .left) _
+    (subst (Answers (now (a .text)) (c .before .before .before .before .before .before .behind2 .result) (disjunctions (Labels.unary (a .depth - 1) (a .propositions)) (left (now (a .text)) (c .before .before .before .before .before .before .behind2 .result)))) (g .1) (c .before .before .before .or .ensures))
+
+unary-returns-6 : (t : ℕ) → unary-lts.Need-returns-6 (unary-calls t) (unary-at t) unary.Post
+unary-returns-6 t c =
+    let a = c .before .before .before .before .before .before .before .before .before .before .before .args in
+    let g = c .before .before .letters2 .given in
+    opened-read (a .propositions) (now (a .text)) (a .at) _ _ (c .before .before .before .before .before .before .before .before .before .behind .ensures) (c .before .before .before .before .before .before .before .before .if1 .left) (a .depth) (c .before .before .before .before .before .before .before .behind2 .ensures) (c .before .before .before .before .before .before .if3 .taken) (c .before .before .before .before .before .if4 .left) _ _
+    (subst (Answers (now (a .text)) (c .before .before .before .before .before .before .before .behind2 .result) (disjunctions (Labels.unary (a .depth - 1) (a .propositions)) (left (now (a .text)) (c .before .before .before .before .before .before .before .behind2 .result)))) (g .1) (c .before .before .before .before .or .ensures))
+    (c .closed .result) (c .closed .ensures)
+
+unary-atom-requires : (t : ℕ) → unary-lts.Need-atom-requires (unary-calls t) (unary-at t) unary.Post
+unary-atom-requires t c κs = search needs
+
+unary-returns-7 : (t : ℕ) → unary-lts.Need-returns-7 (unary-calls t) (unary-at t) unary.Post
+unary-returns-7 t c =
+    let a = c .before .before .before .before .before .before .args in
+    subst (λ x. Answers (now (a .text)) (a .at) x (c .atom .result)) (sym (atom-first (a .propositions) (now (a .text)) (a .at) _ _ (c .before .before .before .before .behind .ensures) (c .before .before .before .if1 .left) (a .depth) (c .before .before .behind2 .ensures) (c .before .if3 .left))) (c .atom .ensures)
+
+pub +and+or+unary-spec : {M : Type 1} → statement M
++and+or+unary-spec = close μ-and μ-or μ-unary (λ t. and-lts.spec (and-calls t)
+    (and-at t)
+    and′.Post
+    and-Inv-loop
+    and-μ-loop
+    (and-unary-requires t)
+    (and-enum-known-refusal t)
+    (and-enum-known-first t)
+    (and-loop-holds t)
+    (and-behind-requires t)
+    (and-returns t)
+    (and-unary-requires-2 t)
+    (and-enum-known-refusal-2 t)
+    (and-returns-2 t)
+    (and-enum-known-more t)
+    (and-loop-less t)
+    (and-loop-again t)
+    (and-returns-3 t))
+    (λ t. or-lts.spec
+    (or-calls t)
+    (or-at t)
+    or.Post
+    or-Inv-loop
+    or-μ-loop
+    (or-and-requires t)
+    (or-enum-known-refusal t)
+    (or-enum-known-first t)
+    (or-loop-holds t)
+    (or-behind-requires t)
+    (or-returns t)
+    (or-and-requires-2 t)
+    (or-enum-known-refusal-2 t)
+    (or-returns-2 t)
+    (or-enum-known-more t)
+    (or-loop-less t)
+    (or-loop-again t)
+    (or-returns-3 t))
+    λ t. unary-lts.spec (unary-calls t)
+    (unary-at t)
+    unary.Post
+    (unary-behind-requires t)
+    (unary-sub-t15 t)
+    (unary-returns t)
+    (unary-sub-unary t)
+    (unary-unary-requires t)
+    (unary-enum-known-refusal t)
+    (unary-enum-known-letters t)
+    (unary-returns-2 t)
+    (unary-returns-3 t)
+    (unary-behind-requires-2 t)
+    (unary-sub-t22 t)
+    (unary-returns-4 t)
+    (unary-sub-or t)
+    (unary-or-requires t)
+    (unary-enum-known-refusal-2 t)
+    (unary-enum-known-letters-2 t)
+    (unary-closed-requires t)
+    (unary-returns-5 t)
+    (unary-returns-6 t)
+    (unary-atom-requires t)
+    (unary-returns-7 t)

@@ -1,0 +1,58 @@
+// What a label is built of: propositions, `t` and `f`.
+use crate::ALL;
+use crate::LabelRead;
+use automaton::refusal::Refusal;
+use scan::Token;
+use scan::next_token;
+use scan::offset;
+use scan::words::FALSE;
+use scan::words::TRUE;
+use scan::words::same;
+ghost use Prim.Native.Nat.{_<_, _≤_};
+ghost use lib.ListN.{length};
+ghost use Rattle.hoa_text.specs.Labels.{proposition, atom};
+ghost use Rattle.hoa_text.specs.Offsets.{left};
+ghost use Rattle.labels.specs.Answers.{Answers, Satisfy, Constant};
+
+pub fn atom(text: &[u8], at: usize, propositions: usize) -> LabelRead
+    ensures { λ r. ⌜ Answers (now (text .entry)) at (atom propositions (left (now (text .entry)) at)) r ⌝ }
+{
+    match next_token(text, at) {
+        Token::Number(offset, value, end) => {
+            if value < propositions {
+                LabelRead::Letters(letters_with(value), end)
+            } else {
+                LabelRead::Refused(Refusal::Undeclared(offset))
+            }
+        }
+        Token::Word(offset, end) => constant(text, offset, end),
+        _ => LabelRead::Refused(Refusal::Form(offset(text, at))),
+    }
+}
+
+// A word from `start` up to `end`.
+fn constant(text: &[u8], start: usize, end: usize) -> LabelRead
+    requires { ⌜ (start < end) × (end ≤ length (now text)) ⌝ }
+    ensures { λ r. ⌜ Constant (now (text .entry)) start end r ⌝ }
+{
+    if same(&TRUE, &text[start..end]) {
+        return LabelRead::Letters(ALL, end);
+    }
+    if same(&FALSE, &text[start..end]) {
+        return LabelRead::Letters(0, end);
+    }
+    LabelRead::Refused(Refusal::Form(start))
+}
+
+// The letters that have a proposition.
+fn letters_with(number: usize) -> u16
+    ensures { λ r. ⌜ Satisfy r (proposition number) ⌝ }
+{
+    match number {
+        0 => 43690,
+        1 => 52428,
+        2 => 61680,
+        3 => 65280,
+        _ => 0,
+    }
+}
