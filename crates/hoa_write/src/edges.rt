@@ -3,7 +3,6 @@ use crate::lines;
 use crate::pieces::byte;
 use crate::pieces::byte_if;
 use crate::pieces::number;
-use crate::words;
 use automaton::Automaton;
 use automaton::powers::power_of_two;
 ghost use mathlib.Core.Path.{_≡_};

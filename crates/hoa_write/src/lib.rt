@@ -13,7 +13,6 @@ ghost use Rattle.hoa_write.specs.Answer.{Answered};
 mod edges;
 mod lines;
 mod pieces;
-pub mod words;
 
 pub enum Written {
     // The number of bytes.

@@ -4,7 +4,6 @@ use crate::pieces::byte;
 use crate::pieces::byte_if;
 use crate::pieces::number;
 use crate::pieces::word;
-use crate::words;
 use automaton::Automaton;
 ghost use mathlib.Core.List.{_∷_, _++_};
 ghost use Prim.Native.Nat.{_+_, _≤_, _<_};

@@ -292,14 +292,3 @@ module _ (s : List ℕ) (i e : ℕ) (l : i < e) (m : e ≤ length s) where
 
     pub is-neither : same (102 ∷ []) (slice i e s) ≡ false → Constant s i e (Refused (Form i))
     is-neither h k = rw (no, h)
-
--- a part that is lent is the slice
-pub part-is : (i e : ℕ) (s : List ℕ) → i ≤ e → take (e - i) (drop i s) ≡ slice i e s
-part-is zero e s h = let m : e - 0 ≡ e = omega arith in ap (λ n. take n s) m
-part-is (suc i) zero s h = absurd (omega arith)
-part-is (suc i) (suc e) [] h = nothing (suc e - suc i)
-  where
-    nothing : (n : ℕ) → take {A = ℕ} n [] ≡ []
-    nothing zero = refl
-    nothing (suc n) = refl
-part-is (suc i) (suc e) (b ∷ s) h = let m : suc e - suc i ≡ e - i = omega arith in ap (λ n. take n (drop i s)) m ∙ part-is i e s (omega arith)

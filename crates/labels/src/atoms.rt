@@ -5,9 +5,9 @@ use automaton::refusal::Refusal;
 use scan::Token;
 use scan::next_token;
 use scan::offset;
-use scan::words::FALSE;
-use scan::words::TRUE;
-use scan::words::same;
+use words::FALSE;
+use words::TRUE;
+use words::spells;
 ghost use Prim.Native.Nat.{_<_, _≤_};
 ghost use lib.ListN.{length};
 ghost use Rattle.hoa_text.specs.Labels.{proposition, atom};
@@ -35,10 +35,10 @@ fn constant(text: &[u8], start: usize, end: usize) -> LabelRead
     requires { ⌜ (start < end) × (end ≤ length (now text)) ⌝ }
     ensures { λ r. ⌜ Constant (now (text .entry)) start end r ⌝ }
 {
-    if same(&TRUE, &text[start..end]) {
+    if spells(text, start, end, &TRUE) {
         return LabelRead::Letters(ALL, end);
     }
-    if same(&FALSE, &text[start..end]) {
+    if spells(text, start, end, &FALSE) {
         return LabelRead::Letters(0, end);
     }
     LabelRead::Refused(Refusal::Form(start))

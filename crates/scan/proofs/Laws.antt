@@ -316,24 +316,6 @@ behind-none s i b t h k = absent-behind s i b (ap (next (isSignOf b)) (h .is) �
     go (Over o) k = refl
     go (Broken o r) k = refl
 
--- ---- the same bytes
-
-pub same-length : (w u : List ℕ) → length u ≢ length w → same w u ≡ false
-same-length [] [] h = absurd (h refl)
-same-length [] (b ∷ u) h = refl
-same-length (a ∷ w) [] h = refl
-same-length (a ∷ w) (b ∷ u) h = ap (λ x. eqb a b && x) (same-length w u (λ e. h (ap suc e))) ∙ go (eqb a b)
-  where
-    go : (x : Bool) → (x && false) ≡ false
-    go true = refl
-    go false = refl
-
-pub same-step : (w u : List ℕ) (i : ℕ) → i < length w → i < length u → same (drop i w) (drop i u) ≡ (eqb (getD w i 0) (getD u i 0) && same (drop (i + 1) w) (drop (i + 1) u))
-same-step w u i h k = rw (drop-cons w i 0 h, drop-cons u i 0 k, add-one i)
-
-pub same-end : (w u : List ℕ) (i : ℕ) → length w ≤ i → length u ≤ i → same (drop i w) (drop i u) ≡ true
-same-end w u i h k = rw (drop-of-length-le w h, drop-of-length-le u k)
-
 -- ---- offsets
 
 pub offset-is : (s : List ℕ) (i : ℕ) (t u : Token) → Reads s i t → t ≡ u → at (stream s u) ≡ at (left s i)

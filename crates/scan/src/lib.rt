@@ -4,7 +4,6 @@ mod names;
 mod numbers;
 mod quoted;
 mod signs;
-pub mod words;
 
 use bytes::opens_sign;
 use bytes::opens_word;

@@ -1,8 +1,8 @@
 // The words that open and close the body, byte for byte.
 use crate::Token;
-use crate::words::ABORT;
-use crate::words::BODY;
-use crate::words::END;
+use words::ABORT;
+use words::BODY;
+use words::END;
 ghost use mathlib.Core.Path.{_≡_};
 ghost use Prim.Native.Nat.{_<_};
 ghost use lib.ListN.{length, getD, drop};

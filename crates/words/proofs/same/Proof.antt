@@ -1,4 +1,4 @@
--- `words::same` meets its contract.
+-- `same` meets its contract.
 use mathlib.Core.Path.{_≡_, refl, sym, _∙_}
 use Prim.Native.Nat.{_-_, _≤_}
 use native.Mathlib.Omega.{arith}
@@ -6,10 +6,10 @@ use borrow.Author.Tests.{eq-eqb, ne-eqb}
 use denote.Ref.{now}
 use lib.ListN.{length, drop}
 use Rattle.hoa_text.specs.Basics.{same}
-use Rattle.scan.proofs.Laws.{same-length, same-step, same-end}
+use Rattle.words.proofs.Laws.{same-length, same-step, same-end}
 use borrow.Author.Needs.{needs}
-use Rattle.scan.proofs.words.same.Statement.{statement}
-use Rattle.scan.proofs.words.same.Tie as tie
+use Rattle.words.proofs.same.Statement.{statement}
+use Rattle.words.proofs.same.Tie as tie
 
 abbrev Inv-loop : tie.InvT-loop
 Inv-loop word other size i₀ i = (i ≤ length word) × (same word other ≡ same (drop i word) (drop i other))
