@@ -22,6 +22,7 @@ pub mod Offsets
 pub mod RunOffsets
 pub mod QuotedOffsets
 pub mod SignOffsets
+pub mod FirstByte
 pub mod WrittenTokens
 pub mod WrittenLabels
 pub mod WrittenMarks

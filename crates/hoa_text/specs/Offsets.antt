@@ -42,7 +42,7 @@ abbrev pub pieceAt : List ℕ → ℕ → Piece
 pieceAt s i = piece (getD s i 0) (drop (suc i) s)
 
 module _ (s : List ℕ) (i : ℕ) (h : i < length s) where
-  left-piece : (x : Piece) → pieceAt s i ≡ x → left s i ≡ placed x i (length s) (λ n. lex (drop (suc i) s) n (i + 1))
+  pub left-piece : (x : Piece) → pieceAt s i ≡ x → left s i ≡ placed x i (length s) (λ n. lex (drop (suc i) s) n (i + 1))
   left-piece x p =
       let b = getD s i 0 in
       let r = drop (suc i) s in

@@ -1,102 +1,36 @@
 -- Laws of labels.
-use mathlib.Core.Path.{_≡_, refl, sym, ap, _∙_, subst}
+use mathlib.Core.Path.{_≡_, refl, sym, ap, _∙_}
 use mathlib.Core.Logic.{_≢_}
-use mathlib.Core.Bool.{Bool, true, false, not, cond, _&&_, _||_}
+use mathlib.Core.Bool.{true, false, true≢false}
 use mathlib.Core.List.{List, [], _∷_}
-use Prim.Native.Nat.{ℕ, zero, suc, _+_, _-_, _/_, _%_, _^_, _≤_, _<_}
+use Prim.Native.Nat.{ℕ, zero, suc, _+_, _-_, _≤_, _<_}
 use Prim.Native.String.{String}
-use native.Mathlib.Nat.{mod-lt, zero-lt-suc, div-eq-of-lt}
 use native.Mathlib.Omega.{arith}
-use borrow.Author.Tests.{lt-ltb, le-ltb, eq-eqb, eqb-true}
-use lib.Bits.{bitAnd, bitOr, bitXor, and-shr, and-mod, xor-shr, xor-mod}
-use lib.Dec.{eqb}
-use lib.Pow.{pow-mono}
-use lib.ListN.{length, take, drop}
+use borrow.Author.Tests.{lt-ltb, le-ltb, eq-eqb, ne-eqb}
+use lib.Bits.{bitXor}
+use lib.ListN.{length, getD}
 use lib.Seq.{slice}
 use denote.Enum.Declared.{tagOf, declared}
 use types.Run.{OneOf, miss}
-use Rattle.meaning.specs.Tests.{all, all-at}
-use Rattle.meaning.specs.BitSet.{digit, has, has-or, has-zero}
 use Rattle.automaton.specs.declared.refusal.Refusal.{Refusal}
 use Rattle.automaton.specs.declared.refusal.Refusal.the-variants.{Form, Size, Undeclared}
-use Rattle.hoa_text.specs.Basics.{option, bytes, same}
-use Rattle.hoa_text.specs.Tokens.{number, word, sign, Stream, stands}
-use Rattle.hoa_text.specs.Grammar.{signOf, isSign, next, rest, at, Result, gives, refuses, Parsed, then, Turn, again, done, repeat}
-use Rattle.hoa_text.specs.Labels.{Formula, proposition, top, bottom, negation, conjunction, disjunction, holds, atom, operation, operands, conjunctions, disjunctions, negated, closed, unary}
+use Rattle.hoa_text.specs.Basics.{option, isSome, bytes, same}
+use Rattle.hoa_text.specs.Tokens.{blank, digit, sign, token, piece, Stream, stands}
+use Rattle.hoa_text.specs.Grammar.{numberOf, signOf, isWord, isSign, next, rest, at, gives, refuses, Parsed, then, due, again, repeat}
+use Rattle.hoa_text.specs.Labels.{Formula, propositionGiven, proposition, top, bottom, negation, atom, operation, operands, disjunctions, negated, closed, unary}
 use Rattle.hoa_text.specs.Repetition.{Shrinks, repeat-again, repeat-done, repeat-refuses}
-use Rattle.hoa_text.specs.Offsets.{left}
+use Rattle.hoa_text.specs.Offsets.{left, inside}
+use Rattle.hoa_text.specs.RunOffsets.{digit-blank}
+use Rattle.hoa_text.specs.SignOffsets.{left-mark}
+use Rattle.hoa_text.specs.FirstByte.{excluded}
 use Rattle.scan.specs.declared.Token.{Token}
 use Rattle.scan.specs.declared.Token.the-variants.{Word, Item, Number, Quoted, Sign, Body, End, Abort, Unread, Over, Broken}
-use Rattle.scan.specs.Answers.{stream, Reads, isSignOf, Behind}
+use Rattle.scan.specs.Answers.{stream, Reads, Skipped, isSignOf, Behind}
 use Rattle.scan.proofs.Token.{enum}
 use Rattle.labels.specs.declared.LabelRead.{LabelRead}
 use Rattle.labels.specs.declared.LabelRead.the-variants.{Letters, Refused}
-use Rattle.labels.specs.Answers.{Satisfy, Read, Answers, Closes, Constant}
-
--- ---- sets of letters
-
-digit-and : (a b : ℕ) → a < 2 → b < 2 → digit (bitAnd a b) ≡ (digit a && digit b)
-digit-and zero b ha hb = refl
-digit-and (suc zero) zero ha hb = refl
-digit-and (suc zero) (suc zero) ha hb = refl
-digit-and (suc zero) (suc (suc b)) ha hb = absurd (omega arith)
-digit-and (suc (suc a)) b ha hb = absurd (omega arith)
-
-has-and : (a b i : ℕ) → has (bitAnd a b) i ≡ (has a i && has b i)
-has-and a b i =
-    ap (λ n. digit (n % 2)) (and-shr a b i) ∙ ap digit (and-mod (a / 2 ^ i) (b / 2 ^ i) 1)
-    ∙ digit-and (a / 2 ^ i % 2) (b / 2 ^ i % 2) (mod-lt (a / 2 ^ i) (zero-lt-suc 1)) (mod-lt (b / 2 ^ i) (zero-lt-suc 1))
-
-digit-not : (a : ℕ) → a < 2 → digit (bitXor a 1) ≡ not (digit a)
-digit-not zero h = refl
-digit-not (suc zero) h = refl
-digit-not (suc (suc a)) h = absurd (omega arith)
-
-all-have : (i : ℕ) → i < 16 → 65535 / 2 ^ i % 2 ≡ 1
-all-have i h = eqb-true (65535 / 2 ^ i % 2) 1 (all-at 16 (λ i. eqb (65535 / 2 ^ i % 2) 1) refl i h)
-
-has-not : (a i : ℕ) → i < 16 → has (bitXor a 65535) i ≡ not (has a i)
-has-not a i h =
-    ap (λ n. digit (n % 2)) (xor-shr a 65535 i) ∙ ap digit (xor-mod (a / 2 ^ i) (65535 / 2 ^ i) 1)
-    ∙ ap (λ n. digit (bitXor (a / 2 ^ i % 2) n)) (all-have i h) ∙ digit-not (a / 2 ^ i % 2) (mod-lt (a / 2 ^ i) (zero-lt-suc 1))
-
-pub all-letters : Satisfy 65535 top
-all-letters l h = ap digit (all-have l h)
-
-pub no-letters : Satisfy 0 bottom
-no-letters l h = has-zero l
-
-pub letters-not : (a : ℕ) (f : Formula) → Satisfy a f → Satisfy (bitXor a 65535) (negation f)
-letters-not a f h l g = has-not a l g ∙ ap not (h l g)
-
-pub letters-and : (a b : ℕ) (f g : Formula) → Satisfy a f → Satisfy b g → Satisfy (bitAnd a b) (conjunction f g)
-letters-and a b f g h k l i = has-and a b l ∙ ap (λ x. x && has b l) (h l i) ∙ ap (λ x. holds f l && x) (k l i)
-
-pub letters-or : (a b : ℕ) (f g : Formula) → Satisfy a f → Satisfy b g → Satisfy (bitOr a b) (disjunction f g)
-letters-or a b f g h k l i = has-or a b l ∙ ap (λ x. x || has b l) (h l i) ∙ ap (λ x. holds f l || x) (k l i)
-
--- a set of letters, bit by bit
-letters-of : (set i : ℕ) → all 16 (λ l. eqb (set / 2 ^ l % 2) (l / 2 ^ i % 2)) ≡ true → Satisfy set (proposition i)
-letters-of set i e l h = ap digit (eqb-true (set / 2 ^ l % 2) (l / 2 ^ i % 2) (all-at 16 (λ l. eqb (set / 2 ^ l % 2) (l / 2 ^ i % 2)) e l h))
-
-pub letters-0 : Satisfy 43690 (proposition 0)
-letters-0 = letters-of 43690 0 refl
-
-pub letters-1 : Satisfy 52428 (proposition 1)
-letters-1 = letters-of 52428 1 refl
-
-pub letters-2 : Satisfy 61680 (proposition 2)
-letters-2 = letters-of 61680 2 refl
-
-pub letters-3 : Satisfy 65280 (proposition 3)
-letters-3 = letters-of 65280 3 refl
-
--- a letter has no proposition past the fourth
-pub letters-past : (i : ℕ) → 4 ≤ i → Satisfy 0 (proposition i)
-letters-past i h l g = has-zero l ∙ sym (ap (λ n. digit (n % 2)) (div-eq-of-lt (below i h l g)))
-  where
-    below : (i : ℕ) → 4 ≤ i → (l : ℕ) → l < 16 → l < 2 ^ i
-    below i h l g = let m : 16 ≤ 2 ^ i = pow-mono {i = 4} h in omega arith
+use Rattle.labels.proofs.LetterSets.{all-letters, no-letters, letters-not}
+use Rattle.labels.specs.Answers.{Satisfy, Read, Answers, Closes, Constant, Spelled}
 
 -- ---- one sign
 
@@ -115,6 +49,38 @@ module _ (w : String) (b : ℕ) (spelled : bytes w ≡ b ∷ []) (s : List ℕ) 
 
   pub its-offset : e ≢ i → at (left s i) ≡ e - 1
   its-offset q = ap at (h .present q)
+
+-- the first byte is that sign
+sign-first : (b : ℕ) → ((r : List ℕ) → piece b r ≡ token (sign (b ∷ [])) 0) → b ≢ 0 → (s : List ℕ) (i o : ℕ) → Skipped s i o → getD s o 0 ≡ b → Behind s i b (o + 1)
+sign-first b is-sign some s i o h e =
+    let l : o < length s = inside s o (λ z. some (sym e ∙ z)) in
+    let m : o ≡ o + 1 - 1 = omega arith in
+    record {
+      from = omega (arith, h .from);
+      absent = λ q. absurd (omega (arith, h .from));
+      present = λ q. h .is ∙ left-mark b is-sign s o l e ∙ ap (λ k. stands k (sign (b ∷ [])) (left s (o + 1))) m;
+      to = λ q. omega arith;
+    }
+
+-- or another
+sign-absent : (b : ℕ) (s : List ℕ) (i o : ℕ) → Skipped s i o → getD s o 0 ≢ b → Behind s i b i
+sign-absent b s i o h n = record {
+  from = omega arith;
+  absent = λ q.
+      ap (next (isSignOf b)) (h .is)
+      ∙ excluded s o (isSignOf b) (h .ends)
+      (record {
+        words = λ d v. refl;
+        items = λ v. refl;
+        numbers = λ d v. refl;
+        texts = λ v. refl;
+        others = refl;
+        nothing = refl;
+        signs = λ v. rw (ne-eqb b (getD s o 0) (λ e. n (sym e)));
+      });
+  present = λ q. absurd (q refl);
+  to = λ q. absurd (q refl);
+}
 
 -- ---- operators
 
@@ -173,7 +139,7 @@ module _ (w : String) (b : ℕ) (spelled : bytes w ≡ b ∷ []) (join : Formula
 -- ---- `!` and brackets
 
 module _ (k : ℕ) (s : List ℕ) (i n : ℕ) where
-  pub denied-deep : (d : ℕ) → Behind s i 33 n → n ≢ i → d ≡ 0 → unary d k (left s i) ≡ refuses (Size (n - 1))
+  denied-deep : (d : ℕ) → Behind s i 33 n → n ≢ i → d ≡ 0 → unary d k (left s i) ≡ refuses (Size (n - 1))
   denied-deep zero h q e = rw (present "!" 33 refl s i n h q) (ap (λ o. refuses (Size o)) (its-offset "!" 33 refl s i n h q))
   denied-deep (suc d) h q e = absurd (omega arith)
 
@@ -183,10 +149,10 @@ module _ (k : ℕ) (s : List ℕ) (i n : ℕ) where
       let m : d ≡ suc d - 1 = omega arith in
       rw (present "!" 33 refl s i n h q) (ap (λ u. then (unary d k u) negated) (behind-it "!" 33 refl s i n h q) ∙ ap (λ d. then (unary d k (left s n)) negated) m)
 
-  pub denied-refused : (d : ℕ) → Behind s i 33 n → n ≢ i → d ≢ 0 → (r : Refusal) → unary (d - 1) k (left s n) ≡ refuses r → unary d k (left s i) ≡ refuses r
+  denied-refused : (d : ℕ) → Behind s i 33 n → n ≢ i → d ≢ 0 → (r : Refusal) → unary (d - 1) k (left s n) ≡ refuses r → unary d k (left s i) ≡ refuses r
   denied-refused d h q e r x = denied-is d h q e ∙ ap (λ y. then y negated) x
 
-  pub denied-read : (d : ℕ) → Behind s i 33 n → n ≢ i → d ≢ 0 → (set m : ℕ) → Read s n (unary (d - 1) k (left s n)) set m → Read s i (unary d k (left s i)) (bitXor set 65535) m
+  denied-read : (d : ℕ) → Behind s i 33 n → n ≢ i → d ≢ 0 → (set m : ℕ) → Read s n (unary (d - 1) k (left s n)) set m → Read s i (unary d k (left s i)) (bitXor set 65535) m
   denied-read d h q e set m x = record {
     formula = negation (x .formula);
     is = denied-is d h q e ∙ ap (λ y. then y negated) (x .is);
@@ -196,7 +162,7 @@ module _ (k : ℕ) (s : List ℕ) (i n : ℕ) where
   }
 
   module _ (p : ℕ) (no : Behind s i 33 p) (none : p ≡ i) where
-    pub opened-deep : (d : ℕ) → Behind s i 40 n → n ≢ i → d ≡ 0 → unary d k (left s i) ≡ refuses (Size (n - 1))
+    opened-deep : (d : ℕ) → Behind s i 40 n → n ≢ i → d ≡ 0 → unary d k (left s i) ≡ refuses (Size (n - 1))
     opened-deep zero h q e =
         rw (absent "!" 33 refl s i p no none, present "(" 40 refl s i n h q) (ap (λ o. refuses (Size o)) (its-offset "(" 40 refl s i n h q))
     opened-deep (suc d) h q e = absurd (omega arith)
@@ -208,10 +174,10 @@ module _ (k : ℕ) (s : List ℕ) (i n : ℕ) where
         rw (absent "!" 33 refl s i p no none, present "(" 40 refl s i n h q)
         (ap (λ u. then (disjunctions (unary d k) u) closed) (behind-it "(" 40 refl s i n h q) ∙ ap (λ d. then (disjunctions (unary d k) (left s n)) closed) m)
 
-    pub opened-refused : (d : ℕ) → Behind s i 40 n → n ≢ i → d ≢ 0 → (r : Refusal) → disjunctions (unary (d - 1) k) (left s n) ≡ refuses r → unary d k (left s i) ≡ refuses r
+    opened-refused : (d : ℕ) → Behind s i 40 n → n ≢ i → d ≢ 0 → (r : Refusal) → disjunctions (unary (d - 1) k) (left s n) ≡ refuses r → unary d k (left s i) ≡ refuses r
     opened-refused d h q e r x = opened-is d h q e ∙ ap (λ y. then y closed) x
 
-    pub opened-read : (d : ℕ) → Behind s i 40 n → n ≢ i → d ≢ 0 → (set m : ℕ) → Read s n (disjunctions (unary (d - 1) k) (left s n)) set m → (r : LabelRead) → Closes s m set r
+    opened-read : (d : ℕ) → Behind s i 40 n → n ≢ i → d ≢ 0 → (set m : ℕ) → Read s n (disjunctions (unary (d - 1) k) (left s n)) set m → (r : LabelRead) → Closes s m set r
         → Answers s i (unary d k (left s i)) r
     opened-read d h q e set m x (Letters a b) c =
         let y = c (x .formula) (x .letters) in
@@ -224,9 +190,65 @@ module _ (k : ℕ) (s : List ℕ) (i n : ℕ) where
         }
     opened-read d h q e set m x (Refused r) c = opened-is d h q e ∙ ap (λ y. then y closed) (x .is) ∙ c (x .formula) (x .letters)
 
-    pub atom-first : (d : ℕ) → Behind s i 40 n → n ≡ i → unary d k (left s i) ≡ atom k (left s i)
+    atom-first : (d : ℕ) → Behind s i 40 n → n ≡ i → unary d k (left s i) ≡ atom k (left s i)
     atom-first zero h q = rw (absent "!" 33 refl s i p no none, absent "(" 40 refl s i n h q)
     atom-first (suc d) h q = rw (absent "!" 33 refl s i p no none, absent "(" 40 refl s i n h q)
+
+-- ---- the first byte, at o, chooses
+
+pub byte-inside : (s : List ℕ) (o b : ℕ) → getD s o 0 ≡ suc b → o < length s
+byte-inside s o b e = inside s o (λ z. absurd (omega (arith, e, z)))
+
+module _ (k : ℕ) (s : List ℕ) (i o d : ℕ) (h : Skipped s i o) where
+  later : o + 1 ≢ i
+  later q = absurd (omega (arith, h .from))
+
+  size-at : (n : ℕ) (x : Parsed Formula) → n ≡ o → x ≡ refuses (Size n) → x ≡ refuses (Size o)
+  size-at n x e h = h ∙ ap (λ n. refuses (Size n)) e
+
+  module _ (e : getD s o 0 ≡ 33) where
+    stands-not : Behind s i 33 (o + 1)
+    stands-not = sign-first 33 (λ r. refl) (λ z. absurd (omega arith)) s i o h e
+
+    pub not-deep : d ≡ 0 → unary d k (left s i) ≡ refuses (Size o)
+    not-deep z = size-at (o + 1 - 1) _ (omega arith) (denied-deep k s i (o + 1) d stands-not later z)
+
+    pub not-refused : d ≢ 0 → (r : Refusal) → unary (d - 1) k (left s (o + 1)) ≡ refuses r → unary d k (left s i) ≡ refuses r
+    not-refused z = denied-refused k s i (o + 1) d stands-not later z
+
+    pub not-read : d ≢ 0 → (set m : ℕ) → Read s (o + 1) (unary (d - 1) k (left s (o + 1))) set m → Read s i (unary d k (left s i)) (bitXor set 65535) m
+    not-read z = denied-read k s i (o + 1) d stands-not later z
+
+  module _ (e : getD s o 0 ≡ 40) where
+    stands-open : Behind s i 40 (o + 1)
+    stands-open = sign-first 40 (λ r. refl) (λ z. absurd (omega arith)) s i o h e
+
+    no-not : Behind s i 33 i
+    no-not = sign-absent 33 s i o h (λ q. absurd (omega arith))
+
+    pub open-deep : d ≡ 0 → unary d k (left s i) ≡ refuses (Size o)
+    open-deep z = size-at (o + 1 - 1) _ (omega arith) (opened-deep k s i (o + 1) i no-not refl d stands-open later z)
+
+    pub open-refused : d ≢ 0 → (r : Refusal) → disjunctions (unary (d - 1) k) (left s (o + 1)) ≡ refuses r → unary d k (left s i) ≡ refuses r
+    open-refused z = opened-refused k s i (o + 1) i no-not refl d stands-open later z
+
+    pub open-read : d ≢ 0 → (set m : ℕ) → Read s (o + 1) (disjunctions (unary (d - 1) k) (left s (o + 1))) set m → (r : LabelRead) → Closes s m set r
+        → Answers s i (unary d k (left s i)) r
+    open-read z = opened-read k s i (o + 1) i no-not refl d stands-open later z
+
+  module _ (n : getD s o 0 ≢ 33) (m : getD s o 0 ≢ 40) where
+    is-atom : unary d k (left s i) ≡ atom k (left s o)
+    is-atom = atom-first k s i i i (sign-absent 33 s i o h n) refl d (sign-absent 40 s i o h m) refl ∙ ap (atom k) (h .is)
+
+    pub atom-read : (r : LabelRead) → Answers s o (atom k (left s o)) r → Answers s i (unary d k (left s i)) r
+    atom-read (Letters a b) x = record {
+      formula = x .formula;
+      is = is-atom ∙ x .is;
+      letters = x .letters;
+      from = omega (arith, h .from, x .from);
+      to = x .to;
+    }
+    atom-read (Refused r) x = is-atom ∙ x
 
 -- ---- behind an expression in brackets
 
@@ -256,7 +278,7 @@ number-read k s i o v e set h l g = record {
 pub number-refused : (k : ℕ) (s : List ℕ) (i o v e : ℕ) → Reads s i (Number o v e) → k ≤ v → atom k (left s i) ≡ refuses (Undeclared o)
 number-refused k s i o v e h l = ap (atom k) (h .is) ∙ rw (le-ltb v k l)
 
-pub word-read : (k : ℕ) (s : List ℕ) (i o e : ℕ) (r : LabelRead) → Reads s i (Word o e) → Constant s o e r → Answers s i (atom k (left s i)) r
+pub word-read : (k : ℕ) (s : List ℕ) (i o e : ℕ) (r : LabelRead) → Reads s i (Word o e) → Spelled s o e r → Answers s i (atom k (left s i)) r
 word-read k s i o e (Letters a b) h c =
     let y = c k in
     record { formula = y .formula; is = ap (atom k) (h .is) ∙ y .is; letters = y .letters; from = omega (arith, h .lies .from, y .from); to = y .to }
@@ -265,14 +287,45 @@ word-read k s i o e (Refused r) h c = ap (atom k) (h .is) ∙ c k
 pub word-lies : (s : List ℕ) (i o e : ℕ) → Reads s i (Word o e) → (o < e) × (e ≤ length s)
 word-lies s i o e h = (h .lies .longer, h .lies .to)
 
-pub no-atom : (k : ℕ) (s : List ℕ) (i o : ℕ) (t : Token) → Reads s i t → OneOf (1 ∷ 3 ∷ 4 ∷ 5 ∷ 6 ∷ 7 ∷ 8 ∷ 9 ∷ 10 ∷ []) (tagOf (declared enum) t) → o ≡ at (left s i)
-    → atom k (left s i) ≡ refuses (Form o)
-no-atom k s i o t h g e = ap (atom k) (h .is) ∙ go t g ∙ ap (λ o. refuses (Form o)) (sym (e ∙ ap at (h .is)))
+-- a digit opens no word
+digit-no-word : (s : List ℕ) (i : ℕ) → digit (getD s i 0) ≡ true → (w : String) → next (isWord w) (left s i) ≡ false
+digit-no-word s i d w =
+    excluded s i (isWord w) (digit-blank (getD s i 0) d)
+    (record {
+      words = λ n v. absurd (true≢false (sym d ∙ n));
+      items = λ v. refl;
+      numbers = λ e v. refl;
+      texts = λ v. refl;
+      others = refl;
+      nothing = refl;
+      signs = λ v. refl;
+    })
+
+-- no number stands where no digit does
+no-digit-no-number : (s : List ℕ) (i : ℕ) → blank (getD s i 0) ≡ false → digit (getD s i 0) ≡ false → next (λ t. isSome (numberOf t)) (left s i) ≡ false
+no-digit-no-number s i b d =
+    excluded s i (λ t. isSome (numberOf t)) b
+    (record {
+      words = λ n v. refl;
+      items = λ v. refl;
+      numbers = λ e v. absurd (true≢false (sym e ∙ d));
+      texts = λ v. refl;
+      others = refl;
+      nothing = refl;
+      signs = λ v. refl;
+    })
+
+pub no-number : (k : ℕ) (s : List ℕ) (i o : ℕ) (t : Token) → digit (getD s i 0) ≡ true → Reads s i t → OneOf (0 ∷ 1 ∷ 3 ∷ 4 ∷ 5 ∷ 6 ∷ 7 ∷ 8 ∷ 9 ∷ 10 ∷ []) (tagOf (declared enum) t)
+    → o ≡ at (left s i) → atom k (left s i) ≡ refuses (Form o)
+no-number k s i o t d h g e =
+    rw (digit-no-word s i d "t", digit-no-word s i d "f")
+    (ap (λ u. then (due numberOf u) (propositionGiven k (at u))) (h .is) ∙ go t g ∙ ap (λ o. refuses (Form o)) (sym (e ∙ ap at (h .is))))
   where
-    go : (t : Token) → OneOf (1 ∷ 3 ∷ 4 ∷ 5 ∷ 6 ∷ 7 ∷ 8 ∷ 9 ∷ 10 ∷ []) (tagOf (declared enum) t) → atom k (stream s t) ≡ refuses (Form (at (stream s t)))
-    go (Word o e) g = absurd (miss (1 ∷ 3 ∷ 4 ∷ 5 ∷ 6 ∷ 7 ∷ 8 ∷ 9 ∷ 10 ∷ []) 0 tt g)
+    go : (t : Token) → OneOf (0 ∷ 1 ∷ 3 ∷ 4 ∷ 5 ∷ 6 ∷ 7 ∷ 8 ∷ 9 ∷ 10 ∷ []) (tagOf (declared enum) t)
+        → then (due numberOf (stream s t)) (propositionGiven k (at (stream s t))) ≡ refuses (Form (at (stream s t)))
+    go (Word o e) g = refl
     go (Item o e) g = refl
-    go (Number o v e) g = absurd (miss (1 ∷ 3 ∷ 4 ∷ 5 ∷ 6 ∷ 7 ∷ 8 ∷ 9 ∷ 10 ∷ []) 2 tt g)
+    go (Number o v e) g = absurd (miss (0 ∷ 1 ∷ 3 ∷ 4 ∷ 5 ∷ 6 ∷ 7 ∷ 8 ∷ 9 ∷ 10 ∷ []) 2 tt g)
     go (Quoted o e) g = refl
     go (Sign o b) g = refl
     go (Body o) g = refl
@@ -282,13 +335,32 @@ no-atom k s i o t h g e = ap (atom k) (h .is) ∙ go t g ∙ ap (λ o. refuses (
     go (Over o) g = refl
     go (Broken o r) g = refl
 
+pub no-word : (s : List ℕ) (i o : ℕ) (t : Token) → blank (getD s i 0) ≡ false → digit (getD s i 0) ≡ false → Reads s i t
+    → OneOf (1 ∷ 2 ∷ 3 ∷ 4 ∷ 5 ∷ 6 ∷ 7 ∷ 8 ∷ 9 ∷ 10 ∷ []) (tagOf (declared enum) t) → o ≡ at (left s i) → Constant s i (Refused (Form o))
+no-word s i o t b d h g e k =
+    ap (atom k) (h .is) ∙ go t g (sym (ap (next (λ t. isSome (numberOf t))) (h .is)) ∙ no-digit-no-number s i b d) ∙ ap (λ o. refuses (Form o)) (sym (e ∙ ap at (h .is)))
+  where
+    go : (t : Token) → OneOf (1 ∷ 2 ∷ 3 ∷ 4 ∷ 5 ∷ 6 ∷ 7 ∷ 8 ∷ 9 ∷ 10 ∷ []) (tagOf (declared enum) t) → next (λ t. isSome (numberOf t)) (stream s t) ≡ false
+        → atom k (stream s t) ≡ refuses (Form (at (stream s t)))
+    go (Word o e) g n = absurd (miss (1 ∷ 2 ∷ 3 ∷ 4 ∷ 5 ∷ 6 ∷ 7 ∷ 8 ∷ 9 ∷ 10 ∷ []) 0 tt g)
+    go (Item o e) g n = refl
+    go (Number o v e) g n = absurd (true≢false n)
+    go (Quoted o e) g n = refl
+    go (Sign o b) g n = refl
+    go (Body o) g n = refl
+    go (End o) g n = refl
+    go (Abort o) g n = refl
+    go (Unread o e) g n = refl
+    go (Over o) g n = refl
+    go (Broken o r) g n = refl
+
 module _ (s : List ℕ) (i e : ℕ) (l : i < e) (m : e ≤ length s) where
-  pub is-true : same (116 ∷ []) (slice i e s) ≡ true → Constant s i e (Letters 65535 e)
+  pub is-true : same (116 ∷ []) (slice i e s) ≡ true → Spelled s i e (Letters 65535 e)
   is-true h k = record { formula = top; is = rw h; letters = all-letters; from = l; to = m }
 
   module _ (no : same (116 ∷ []) (slice i e s) ≡ false) where
-    pub is-false : same (102 ∷ []) (slice i e s) ≡ true → Constant s i e (Letters 0 e)
+    pub is-false : same (102 ∷ []) (slice i e s) ≡ true → Spelled s i e (Letters 0 e)
     is-false h k = record { formula = bottom; is = rw (no, h); letters = no-letters; from = l; to = m }
 
-    pub is-neither : same (102 ∷ []) (slice i e s) ≡ false → Constant s i e (Refused (Form i))
+    pub is-neither : same (102 ∷ []) (slice i e s) ≡ false → Spelled s i e (Refused (Form i))
     is-neither h k = rw (no, h)

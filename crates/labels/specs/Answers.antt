@@ -32,6 +32,10 @@ Answers s i x (Refused r) = x ≡ refuses r
 abbrev pub Closes : List ℕ → ℕ → ℕ → LabelRead → Type 0
 Closes s i set r = (f : Formula) → Satisfy set f → Answers s i (closed f (left s i)) r
 
--- the word from i up to e as an atom, whatever the number of propositions
-abbrev pub Constant : List ℕ → ℕ → ℕ → LabelRead → Type 0
-Constant s i e r = (k : ℕ) → Answers s i (atom k (stands i (word (slice i e s)) (left s e))) r
+-- an atom that is no number, whatever the number of propositions
+abbrev pub Constant : List ℕ → ℕ → LabelRead → Type 0
+Constant s i r = (k : ℕ) → Answers s i (atom k (left s i)) r
+
+-- the word from i up to e as an atom
+abbrev pub Spelled : List ℕ → ℕ → ℕ → LabelRead → Type 0
+Spelled s i e r = (k : ℕ) → Answers s i (atom k (stands i (word (slice i e s)) (left s e))) r

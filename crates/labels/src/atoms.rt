@@ -8,13 +8,18 @@ use scan::offset;
 use words::FALSE;
 use words::TRUE;
 use words::spells;
+ghost use mathlib.Core.Path.{_≡_};
+ghost use mathlib.Core.Bool.{true, false};
 ghost use Prim.Native.Nat.{_<_, _≤_};
-ghost use lib.ListN.{length};
+ghost use lib.ListN.{length, getD};
+ghost use Rattle.hoa_text.specs.Tokens.{blank, digit};
 ghost use Rattle.hoa_text.specs.Labels.{proposition, atom};
 ghost use Rattle.hoa_text.specs.Offsets.{left};
-ghost use Rattle.labels.specs.Answers.{Answers, Satisfy, Constant};
+ghost use Rattle.labels.specs.Answers.{Answers, Satisfy, Constant, Spelled};
 
-pub fn atom(text: &[u8], at: usize, propositions: usize) -> LabelRead
+// A number, at the digit that opens it.
+pub fn proposition(text: &[u8], at: usize, propositions: usize) -> LabelRead
+    requires { ⌜ digit (getD (now text) at 0) ≡ true ⌝ }
     ensures { λ r. ⌜ Answers (now (text .entry)) at (atom propositions (left (now (text .entry)) at)) r ⌝ }
 {
     match next_token(text, at) {
@@ -25,15 +30,25 @@ pub fn atom(text: &[u8], at: usize, propositions: usize) -> LabelRead
                 LabelRead::Refused(Refusal::Undeclared(offset))
             }
         }
-        Token::Word(offset, end) => constant(text, offset, end),
         _ => LabelRead::Refused(Refusal::Form(offset(text, at))),
     }
 }
 
-// A word from `start` up to `end`.
-fn constant(text: &[u8], start: usize, end: usize) -> LabelRead
+// A word, or nothing of a label, at a byte that is no digit.
+pub fn constant(text: &[u8], at: usize) -> LabelRead
+    requires { ⌜ (blank (getD (now text) at 0) ≡ false) × (digit (getD (now text) at 0) ≡ false) ⌝ }
+    ensures { λ r. ⌜ Constant (now (text .entry)) at r ⌝ }
+{
+    match next_token(text, at) {
+        Token::Word(offset, end) => word(text, offset, end),
+        _ => LabelRead::Refused(Refusal::Form(offset(text, at))),
+    }
+}
+
+// The word from `start` up to `end`.
+fn word(text: &[u8], start: usize, end: usize) -> LabelRead
     requires { ⌜ (start < end) × (end ≤ length (now text)) ⌝ }
-    ensures { λ r. ⌜ Constant (now (text .entry)) start end r ⌝ }
+    ensures { λ r. ⌜ Spelled (now (text .entry)) start end r ⌝ }
 {
     if spells(text, start, end, &TRUE) {
         return LabelRead::Letters(ALL, end);

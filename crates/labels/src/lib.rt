@@ -1,9 +1,11 @@
 // The labels of edges, read as sets of letters.
 mod atoms;
 
-use atoms::atom;
+use atoms::constant;
+use atoms::proposition;
 use automaton::refusal::Refusal;
 use scan::behind;
+use scan::first_byte;
 use scan::offset;
 ghost use Rattle.hoa_text.specs.Labels.{label, unary, conjunctions, disjunctions};
 ghost use Rattle.hoa_text.specs.Offsets.{left};
@@ -81,30 +83,35 @@ fn and(text: &[u8], at: usize, propositions: usize, depth: usize) -> LabelRead
     }
 }
 
+// The next byte chooses the token: `!`, a bracket, a proposition's number, or a word.
 fn unary(text: &[u8], at: usize, propositions: usize, depth: usize) -> LabelRead
     ensures { λ r. ⌜ Answers (now (text .entry)) at (unary depth propositions (left (now (text .entry)) at)) r ⌝ }
 {
-    let denied = behind(text, at, b'!');
-    if denied != at {
-        if depth == 0 {
-            return LabelRead::Refused(Refusal::Size(denied - 1));
+    let first = first_byte(text, at);
+    let offset = first.offset;
+    let byte = first.byte;
+    match byte {
+        b'!' => {
+            if depth == 0 {
+                return LabelRead::Refused(Refusal::Size(offset));
+            }
+            match unary(text, offset + 1, propositions, depth - 1) {
+                LabelRead::Refused(refusal) => LabelRead::Refused(refusal),
+                LabelRead::Letters(letters, end) => LabelRead::Letters(letters ^ ALL, end),
+            }
         }
-        return match unary(text, denied, propositions, depth - 1) {
-            LabelRead::Refused(refusal) => LabelRead::Refused(refusal),
-            LabelRead::Letters(letters, end) => LabelRead::Letters(letters ^ ALL, end),
-        };
-    }
-    let opened = behind(text, at, b'(');
-    if opened != at {
-        if depth == 0 {
-            return LabelRead::Refused(Refusal::Size(opened - 1));
+        b'(' => {
+            if depth == 0 {
+                return LabelRead::Refused(Refusal::Size(offset));
+            }
+            match or(text, offset + 1, propositions, depth - 1) {
+                LabelRead::Refused(refusal) => LabelRead::Refused(refusal),
+                LabelRead::Letters(letters, end) => closed(text, letters, end),
+            }
         }
-        return match or(text, opened, propositions, depth - 1) {
-            LabelRead::Refused(refusal) => LabelRead::Refused(refusal),
-            LabelRead::Letters(letters, end) => closed(text, letters, end),
-        };
+        b'0'..=b'9' => proposition(text, offset, propositions),
+        _ => constant(text, offset),
     }
-    atom(text, at, propositions)
 }
 
 // Behind an expression in brackets.

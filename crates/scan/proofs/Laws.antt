@@ -12,7 +12,7 @@ use lib.Dec.{leb, eqb}
 use lib.ListN.{length, getD, drop, length-drop, drop-of-length-le, List·getD-eq-default}
 use lib.Seq.{slice, slice-empty, drop-cons}
 use Rattle.meaning.specs.Tests.{and-left, and-right, or-cases}
-use Rattle.hoa_text.specs.Basics.{bytes, begins, same}
+use Rattle.hoa_text.specs.Basics.{bytes, begins}
 use Rattle.hoa_text.specs.Tokens.{blank, digit, opensWord, inWord, sign, token, leadingZero, value, piece, stands}
 use Rattle.hoa_text.specs.Offsets.{left, inside, left-over, left-blank}
 use Rattle.hoa_text.specs.Numbers.{value-next, leads-zero, one-digit}

@@ -5,6 +5,7 @@ mod numbers;
 mod quoted;
 mod signs;
 
+use bytes::byte_at;
 use bytes::opens_sign;
 use bytes::opens_word;
 use bytes::skip_blanks;
@@ -14,9 +15,10 @@ use numbers::number;
 use quoted::quoted;
 use signs::body_word;
 ghost use mathlib.Core.Path.{_≡_};
+ghost use lib.ListN.{getD};
 ghost use Rattle.hoa_text.specs.Grammar.{at};
 ghost use Rattle.hoa_text.specs.Offsets.{left};
-ghost use Rattle.scan.specs.Answers.{Reads, Other, Behind};
+ghost use Rattle.scan.specs.Answers.{Reads, Skipped, Other, Behind};
 
 // What stands first at or after an offset. The first number of each is the token's offset.
 pub enum Token {
@@ -74,6 +76,21 @@ fn other(text: &[u8], start: usize, byte: u8) -> Token
         return Token::Sign(start, byte);
     }
     Token::Broken(start, start)
+}
+
+// A byte of the text, and its offset.
+pub struct Head {
+    pub offset: usize,
+    pub byte: u8,
+}
+
+// The first byte at or after an offset that is no blank: 0 at the end of the text.
+pub fn first_byte(text: &[u8], at: usize) -> Head
+    ensures { λ r. ⌜ Skipped (now (text .entry)) at (r .offset) × (r .byte ≡ getD (now (text .entry)) (r .offset) 0) ⌝ }
+{
+    let offset = skip_blanks(text, at);
+    let byte = byte_at(text, offset);
+    Head { offset, byte }
 }
 
 // The offset behind a sign of one byte; `at` where that sign does not stand first.

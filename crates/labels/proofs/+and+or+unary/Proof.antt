@@ -1,5 +1,6 @@
 -- `or`, `and` and `unary`, which call one another, meet their contracts. The text that is left falls; at the same offset `or` stands above `and`, and `and` above `unary`.
-use mathlib.Core.Path.{_≡_, refl, sym, subst}
+use mathlib.Core.Path.{refl, sym, ap, subst, _∙_}
+use mathlib.Core.Logic.{⊎-elim}
 use native.Mathlib.Omega.{arith}
 use borrow.Author.Needs.{needs}
 use lib.ListN.{length}
@@ -7,9 +8,11 @@ use denote.Ref.{now}
 use Rattle.hoa_text.specs.Labels.{conjunction, disjunction, conjunctions, disjunctions}
 use Rattle.hoa_text.specs.Labels as Labels
 use Rattle.hoa_text.specs.LabelProgress.{and-shrinks, or-shrinks}
+use Rattle.hoa_text.specs.Tokens.{digit}
 use Rattle.hoa_text.specs.Offsets.{left}
 use Rattle.labels.specs.Answers.{Read, Answers}
-use Rattle.labels.proofs.Laws.{letters-and, letters-or, Joined, joined-first, refused-first, joined-done, joined-refused, joined-again, denied-deep, denied-refused, denied-read, opened-deep, opened-refused, opened-read, atom-first}
+use Rattle.labels.proofs.LetterSets.{letters-and, letters-or}
+use Rattle.labels.proofs.Laws.{Joined, joined-first, refused-first, joined-done, joined-refused, joined-again, not-deep, not-refused, not-read, open-deep, open-refused, open-read, atom-read, byte-inside}
 use Prim.Native.Nat.{ℕ, _+_, _-_, _*_, _<_}
 use borrow.Fn.Kinds.{In}
 use borrow.Fn.PlainCycle.{Measures, is, falls, and}
@@ -22,9 +25,12 @@ use Rattle.labels.proofs.+and+or+unary.Lts-or as or-lts
 use Rattle.labels.proofs.unary.Reads as unary
 use Rattle.labels.proofs.unary.Kinds as unary-kinds
 use Rattle.labels.proofs.+and+or+unary.Lts-unary as unary-lts
-use Rattle.labels.proofs.atoms.atom.Reads as atom-reads
+use Rattle.labels.proofs.atoms.proposition.Reads as proposition-reads
+use Rattle.labels.proofs.atoms.constant.Reads as constant-reads
 use Rattle.labels.proofs.closed.Reads as closed-reads
+use Rattle.scan.proofs.Laws.{digit-between, below-digits, above-digits}
 use Rattle.scan.proofs.behind.Reads as behind-reads
+use Rattle.scan.proofs.first_byte.Reads as first-byte-reads
 use Rattle.labels.proofs.+and+or+unary.{statement}
 use Rattle.labels.proofs.+and+or+unary.Tie.{close}
 
@@ -63,16 +69,18 @@ or-calls t = (and-below t, and′.Post, behind-reads.Asked, behind-reads.Learnt)
 
 abbrev unary-calls : ℕ → unary-lts.Claims
 unary-calls t = (
-  behind-reads.Asked,
-  behind-reads.Learnt,
+  first-byte-reads.Asked,
+  first-byte-reads.Learnt,
   unary-below t,
   unary.Post,
   or-below t,
   or.Post,
   closed-reads.Asked,
   closed-reads.Learnt,
-  atom-reads.Asked,
-  atom-reads.Learnt,
+  proposition-reads.Asked,
+  proposition-reads.Learnt,
+  constant-reads.Asked,
+  constant-reads.Learnt,
 )
 
 abbrev and-Inv-loop : and-lts.InvT-loop
@@ -215,24 +223,32 @@ or-returns-3 t c =
     let g = c .before .refusal .given in
     refused-first "|" 124 refl disjunction (conjunctions (Labels.unary (a .depth) (a .propositions))) (or-shrinks (a .depth) (a .propositions)) (now (a .text)) (a .at) _ (subst (Answers (now (a .text)) (a .at) ((conjunctions (Labels.unary (a .depth) (a .propositions))) (left (now (a .text)) (a .at)))) (g .1) (c .before .before .before .and .ensures))
 
-unary-behind-requires : (t : ℕ) → unary-lts.Need-behind-requires (unary-calls t) (unary-at t) unary.Post
-unary-behind-requires t c κs = search needs
-
-unary-sub-t15 : (t : ℕ) → unary-lts.Need-sub-t15 (unary-calls t) (unary-at t) unary.Post
-unary-sub-t15 t c = omega (arith, c .before .before .behind .ensures .from)
+unary-first-byte-requires : (t : ℕ) → unary-lts.Need-first-byte-requires (unary-calls t) (unary-at t) unary.Post
+unary-first-byte-requires t c κs = search needs
 
 unary-returns : (t : ℕ) → unary-lts.Need-returns (unary-calls t) (unary-at t) unary.Post
 unary-returns t c =
     let a = c .before .before .before .before .args in
-    denied-deep (a .propositions) (now (a .text)) (a .at) _ (a .depth) (c .before .before .behind .ensures) (c .before .if1 .taken) (c .if2 .taken)
+    let f = c .before .before .first-byte .ensures in
+    let e = sym (f .1) ∙ c .before .match .keys1 in
+    not-deep (a .propositions) (now (a .text)) (a .at) _ (a .depth) (f .0) e (c .if1 .taken)
+
+unary-add-unary : (t : ℕ) → unary-lts.Need-add-unary (unary-calls t) (unary-at t) unary.Post
+unary-add-unary t c =
+    let a = c .before .before .before .before .args in
+    let f = c .before .before .first-byte .ensures in
+    let e = sym (f .1) ∙ c .before .match .keys1 in
+    omega (arith, byte-inside (now (a .text)) _ _ e)
 
 unary-sub-unary : (t : ℕ) → unary-lts.Need-sub-unary (unary-calls t) (unary-at t) unary.Post
 unary-sub-unary t c = search needs
 
 unary-unary-requires : (t : ℕ) → unary-lts.Need-unary-requires (unary-calls t) (unary-at t) unary.Post
 unary-unary-requires t c κs =
-    let b = c .before .before .behind .ensures in
-    (omega (arith, c .before .before .before .before .pre .0, b .from, b .to (c .before .if1 .taken)), tt)
+    let a = c .before .before .before .before .args in
+    let f = c .before .before .first-byte .ensures in
+    let e = sym (f .1) ∙ c .before .match .keys1 in
+    (omega (arith, c .before .before .before .before .pre .0, f .0 .from, byte-inside (now (a .text)) _ _ e), tt)
 
 unary-enum-known-refusal : (t : ℕ) → unary-lts.Need-enum-known-refusal (unary-calls t) (unary-at t) unary.Post
 unary-enum-known-refusal t c = search needs
@@ -242,36 +258,27 @@ unary-enum-known-letters t c = search needs
 
 unary-returns-2 : (t : ℕ) → unary-lts.Need-returns-2 (unary-calls t) (unary-at t) unary.Post
 unary-returns-2 t c =
-    let a = c .before .before .before .before .before .before .before .before .args in
-    let g = c .before .refusal .given in
-    denied-refused (a .propositions) (now (a .text)) (a .at) _ (a .depth) (c .before .before .before .before .before .before .behind .ensures) (c .before .before .before .before .before .if1 .taken) (c .before .before .before .before .if2 .left) _
-    (subst (Answers (now (a .text)) (c .before .before .before .before .before .before .behind .result) (Labels.unary (a .depth - 1) (a .propositions) (left (now (a .text)) (c .before .before .before .before .before .before .behind .result)))) (g .1) (c .before .before .before .unary .ensures))
+    let a = c .before .before .before .before .args in
+    let f = c .before .before .first-byte .ensures in
+    let e = sym (f .1) ∙ c .before .match .keys2 in
+    open-deep (a .propositions) (now (a .text)) (a .at) _ (a .depth) (f .0) e (c .if2 .taken)
 
-unary-returns-3 : (t : ℕ) → unary-lts.Need-returns-3 (unary-calls t) (unary-at t) unary.Post
-unary-returns-3 t c =
-    let a = c .before .before .before .before .before .before .before .before .args in
-    let g = c .before .letters .given in
-    denied-read (a .propositions) (now (a .text)) (a .at) _ (a .depth) (c .before .before .before .before .before .before .behind .ensures) (c .before .before .before .before .before .if1 .taken) (c .before .before .before .before .if2 .left) _ _
-    (subst (Answers (now (a .text)) (c .before .before .before .before .before .before .behind .result) (Labels.unary (a .depth - 1) (a .propositions) (left (now (a .text)) (c .before .before .before .before .before .before .behind .result)))) (g .1) (c .before .before .before .unary .ensures))
-
-unary-behind-requires-2 : (t : ℕ) → unary-lts.Need-behind-requires-2 (unary-calls t) (unary-at t) unary.Post
-unary-behind-requires-2 t c κs = search needs
-
-unary-sub-t22 : (t : ℕ) → unary-lts.Need-sub-t22 (unary-calls t) (unary-at t) unary.Post
-unary-sub-t22 t c = omega (arith, c .before .before .behind2 .ensures .from)
-
-unary-returns-4 : (t : ℕ) → unary-lts.Need-returns-4 (unary-calls t) (unary-at t) unary.Post
-unary-returns-4 t c =
-    let a = c .before .before .before .before .before .before .args in
-    opened-deep (a .propositions) (now (a .text)) (a .at) _ _ (c .before .before .before .before .behind .ensures) (c .before .before .before .if1 .left) (a .depth) (c .before .before .behind2 .ensures) (c .before .if3 .taken) (c .if4 .taken)
+unary-add-or : (t : ℕ) → unary-lts.Need-add-or (unary-calls t) (unary-at t) unary.Post
+unary-add-or t c =
+    let a = c .before .before .before .before .args in
+    let f = c .before .before .first-byte .ensures in
+    let e = sym (f .1) ∙ c .before .match .keys2 in
+    omega (arith, byte-inside (now (a .text)) _ _ e)
 
 unary-sub-or : (t : ℕ) → unary-lts.Need-sub-or (unary-calls t) (unary-at t) unary.Post
 unary-sub-or t c = search needs
 
 unary-or-requires : (t : ℕ) → unary-lts.Need-or-requires (unary-calls t) (unary-at t) unary.Post
 unary-or-requires t c κs =
-    let b = c .before .before .behind2 .ensures in
-    (omega (arith, c .before .before .before .before .before .before .pre .0, b .from, b .to (c .before .if3 .taken)), tt)
+    let a = c .before .before .before .before .args in
+    let f = c .before .before .first-byte .ensures in
+    let e = sym (f .1) ∙ c .before .match .keys2 in
+    (omega (arith, c .before .before .before .before .pre .0, f .0 .from, byte-inside (now (a .text)) _ _ e), tt)
 
 unary-enum-known-refusal-2 : (t : ℕ) → unary-lts.Need-enum-known-refusal-2 (unary-calls t) (unary-at t) unary.Post
 unary-enum-known-refusal-2 t c = search needs
@@ -282,28 +289,62 @@ unary-enum-known-letters-2 t c = search needs
 unary-closed-requires : (t : ℕ) → unary-lts.Need-closed-requires (unary-calls t) (unary-at t) unary.Post
 unary-closed-requires t c κs = search needs
 
+unary-proposition-requires : (t : ℕ) → unary-lts.Need-proposition-requires (unary-calls t) (unary-at t) unary.Post
+unary-proposition-requires t c κs =
+    let f = c .before .before .before .first-byte .ensures in
+    ap digit (sym (f .1)) ∙ digit-between _ (c .before .if3 .left) (omega (arith, c .if4 .taken))
+
+unary-constant-requires : (t : ℕ) → unary-lts.Need-constant-requires (unary-calls t) (unary-at t) unary.Post
+unary-constant-requires t c κs =
+    let f = c .before .before .first-byte .ensures in
+    (f .0 .ends, ap digit (sym (f .1)) ∙ ⊎-elim (λ w. below-digits _ (w .taken)) (λ w. above-digits _ (w .1 .left)) (c .if3 .came))
+
+unary-returns-3 : (t : ℕ) → unary-lts.Need-returns-3 (unary-calls t) (unary-at t) unary.Post
+unary-returns-3 t c =
+    let a = c .before .before .before .before .before .before .before .before .args in
+    let f = c .before .before .before .before .before .before .first-byte .ensures in
+    let e = sym (f .1) ∙ c .before .before .before .before .before .match .keys1 in
+    not-refused (a .propositions) (now (a .text)) (a .at) _ (a .depth) (f .0) e (c .before .before .before .before .if1 .left) _
+    (subst (Answers (now (a .text)) (c .before .before .before .before .before .before .first-byte .result .offset + 1) (Labels.unary (a .depth - 1) (a .propositions) (left (now (a .text)) (c .before .before .before .before .before .before .first-byte .result .offset + 1)))) (c .before .refusal .given .1) (c .before .before .before .unary .ensures))
+
+unary-returns-4 : (t : ℕ) → unary-lts.Need-returns-4 (unary-calls t) (unary-at t) unary.Post
+unary-returns-4 t c =
+    let a = c .before .before .before .before .before .before .before .before .args in
+    let f = c .before .before .before .before .before .before .first-byte .ensures in
+    let e = sym (f .1) ∙ c .before .before .before .before .before .match .keys1 in
+    not-read (a .propositions) (now (a .text)) (a .at) _ (a .depth) (f .0) e (c .before .before .before .before .if1 .left) _ _
+    (subst (Answers (now (a .text)) (c .before .before .before .before .before .before .first-byte .result .offset + 1) (Labels.unary (a .depth - 1) (a .propositions) (left (now (a .text)) (c .before .before .before .before .before .before .first-byte .result .offset + 1)))) (c .before .letters .given .1) (c .before .before .before .unary .ensures))
+
 unary-returns-5 : (t : ℕ) → unary-lts.Need-returns-5 (unary-calls t) (unary-at t) unary.Post
 unary-returns-5 t c =
-    let a = c .before .before .before .before .before .before .before .before .before .before .args in
-    let g = c .before .refusal2 .given in
-    opened-refused (a .propositions) (now (a .text)) (a .at) _ _ (c .before .before .before .before .before .before .before .before .behind .ensures) (c .before .before .before .before .before .before .before .if1 .left) (a .depth) (c .before .before .before .before .before .before .behind2 .ensures) (c .before .before .before .before .before .if3 .taken) (c .before .before .before .before .if4 .left) _
-    (subst (Answers (now (a .text)) (c .before .before .before .before .before .before .behind2 .result) (disjunctions (Labels.unary (a .depth - 1) (a .propositions)) (left (now (a .text)) (c .before .before .before .before .before .before .behind2 .result)))) (g .1) (c .before .before .before .or .ensures))
+    let a = c .before .before .before .before .before .before .before .before .args in
+    let f = c .before .before .before .before .before .before .first-byte .ensures in
+    let e = sym (f .1) ∙ c .before .before .before .before .before .match .keys2 in
+    open-refused (a .propositions) (now (a .text)) (a .at) _ (a .depth) (f .0) e (c .before .before .before .before .if2 .left) _
+    (subst (Answers (now (a .text)) (c .before .before .before .before .before .before .first-byte .result .offset + 1) (disjunctions (Labels.unary (a .depth - 1) (a .propositions)) (left (now (a .text)) (c .before .before .before .before .before .before .first-byte .result .offset + 1)))) (c .before .refusal2 .given .1) (c .before .before .before .or .ensures))
 
 unary-returns-6 : (t : ℕ) → unary-lts.Need-returns-6 (unary-calls t) (unary-at t) unary.Post
 unary-returns-6 t c =
-    let a = c .before .before .before .before .before .before .before .before .before .before .before .args in
-    let g = c .before .before .letters2 .given in
-    opened-read (a .propositions) (now (a .text)) (a .at) _ _ (c .before .before .before .before .before .before .before .before .before .behind .ensures) (c .before .before .before .before .before .before .before .before .if1 .left) (a .depth) (c .before .before .before .before .before .before .before .behind2 .ensures) (c .before .before .before .before .before .before .if3 .taken) (c .before .before .before .before .before .if4 .left) _ _
-    (subst (Answers (now (a .text)) (c .before .before .before .before .before .before .before .behind2 .result) (disjunctions (Labels.unary (a .depth - 1) (a .propositions)) (left (now (a .text)) (c .before .before .before .before .before .before .before .behind2 .result)))) (g .1) (c .before .before .before .before .or .ensures))
+    let a = c .before .before .before .before .before .before .before .before .before .args in
+    let f = c .before .before .before .before .before .before .before .first-byte .ensures in
+    let e = sym (f .1) ∙ c .before .before .before .before .before .before .match .keys2 in
+    open-read (a .propositions) (now (a .text)) (a .at) _ (a .depth) (f .0) e (c .before .before .before .before .before .if2 .left) _ _
+    (subst (Answers (now (a .text)) (c .before .before .before .before .before .before .before .first-byte .result .offset + 1) (disjunctions (Labels.unary (a .depth - 1) (a .propositions)) (left (now (a .text)) (c .before .before .before .before .before .before .before .first-byte .result .offset + 1)))) (c .before .before .letters2 .given .1) (c .before .before .before .before .or .ensures))
     (c .closed .result) (c .closed .ensures)
-
-unary-atom-requires : (t : ℕ) → unary-lts.Need-atom-requires (unary-calls t) (unary-at t) unary.Post
-unary-atom-requires t c κs = search needs
 
 unary-returns-7 : (t : ℕ) → unary-lts.Need-returns-7 (unary-calls t) (unary-at t) unary.Post
 unary-returns-7 t c =
     let a = c .before .before .before .before .before .before .args in
-    subst (λ x. Answers (now (a .text)) (a .at) x (c .atom .result)) (sym (atom-first (a .propositions) (now (a .text)) (a .at) _ _ (c .before .before .before .before .behind .ensures) (c .before .before .before .if1 .left) (a .depth) (c .before .before .behind2 .ensures) (c .before .if3 .left))) (c .atom .ensures)
+    let f = c .before .before .before .before .first-byte .ensures in
+    let m = c .before .before .before .match .rest in
+    atom-read (a .propositions) (now (a .text)) (a .at) _ (a .depth) (f .0) (λ e. m .0 .1 (f .1 ∙ e)) (λ e. m .1 (f .1 ∙ e)) (c .proposition .result) (c .proposition .ensures)
+
+unary-returns-8 : (t : ℕ) → unary-lts.Need-returns-8 (unary-calls t) (unary-at t) unary.Post
+unary-returns-8 t c =
+    let a = c .before .before .before .before .before .args in
+    let f = c .before .before .before .first-byte .ensures in
+    let m = c .before .before .match .rest in
+    atom-read (a .propositions) (now (a .text)) (a .at) _ (a .depth) (f .0) (λ e. m .0 .1 (f .1 ∙ e)) (λ e. m .1 (f .1 ∙ e)) (c .constant .result) (c .constant .ensures (a .propositions))
 
 pub +and+or+unary-spec : {M : Type 1} → statement M
 +and+or+unary-spec = close μ-and μ-or μ-unary (λ t. and-lts.spec (and-calls t)
@@ -346,24 +387,25 @@ pub +and+or+unary-spec : {M : Type 1} → statement M
     λ t. unary-lts.spec (unary-calls t)
     (unary-at t)
     unary.Post
-    (unary-behind-requires t)
-    (unary-sub-t15 t)
+    (unary-first-byte-requires t)
     (unary-returns t)
+    (unary-add-unary t)
     (unary-sub-unary t)
     (unary-unary-requires t)
     (unary-enum-known-refusal t)
     (unary-enum-known-letters t)
     (unary-returns-2 t)
-    (unary-returns-3 t)
-    (unary-behind-requires-2 t)
-    (unary-sub-t22 t)
-    (unary-returns-4 t)
+    (unary-add-or t)
     (unary-sub-or t)
     (unary-or-requires t)
     (unary-enum-known-refusal-2 t)
     (unary-enum-known-letters-2 t)
     (unary-closed-requires t)
+    (unary-proposition-requires t)
+    (unary-constant-requires t)
+    (unary-returns-3 t)
+    (unary-returns-4 t)
     (unary-returns-5 t)
     (unary-returns-6 t)
-    (unary-atom-requires t)
     (unary-returns-7 t)
+    (unary-returns-8 t)

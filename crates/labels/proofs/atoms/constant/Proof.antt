@@ -1,46 +1,30 @@
 -- `atoms::constant` meets its contract.
-use mathlib.Core.Path.{sym, _∙_}
-use native.Mathlib.Omega.{arith}
-use Rattle.labels.proofs.Laws.{is-true, is-false, is-neither}
+use mathlib.Core.Path.{subst}
+use Rattle.scan.specs.Answers.{Reads}
+use Rattle.labels.proofs.Laws.{word-read, word-lies, no-word}
 use borrow.Author.Needs.{needs}
 use Rattle.labels.proofs.atoms.constant.Statement.{statement}
 use Rattle.labels.proofs.atoms.constant.Tie as tie
 
-slice-aggregate-spells : tie.Need-slice-aggregate-spells
-slice-aggregate-spells c = search needs
+next-token-requires : tie.Need-next-token-requires
+next-token-requires c κs = search needs
 
-spells-requires : tie.Need-spells-requires
-spells-requires c κs = search needs
+enum-known-offset : tie.Need-enum-known-offset
+enum-known-offset c = search needs
+
+word-requires : tie.Need-word-requires
+word-requires c κs = word-lies _ _ _ _ (subst (Reads _ _) (c .before .offset .given .1) (c .before .before .before .next-token .ensures))
+
+offset-requires : tie.Need-offset-requires
+offset-requires c κs = search needs
 
 returns : tie.Need-returns
-returns c =
-    let p = c .before .before .before .before .pre in
-    is-true _ _ _ (p .0) (p .1) (sym (c .before .spells .ensures) ∙ c .if1 .taken)
-
-slice-aggregate-spells-2 : tie.Need-slice-aggregate-spells-2
-slice-aggregate-spells-2 c = search needs
-
-spells-requires-2 : tie.Need-spells-requires-2
-spells-requires-2 c κs = search needs
+returns c k = word-read k _ _ _ _ (c .word .result) (subst (Reads _ _) (c .before .before .offset .given .1) (c .before .before .before .before .next-token .ensures)) (c .word .ensures)
 
 returns-2 : tie.Need-returns-2
 returns-2 c =
-    let p = c .before .before .before .before .before .before .before .pre in
-    is-false _ _ _ (p .0) (p .1) (sym (c .before .before .before .before .spells .ensures) ∙ c .before .before .before .if1 .left) (sym (c .before .spells2 .ensures) ∙ c .if2 .taken)
-
-returns-3 : tie.Need-returns-3
-returns-3 c =
-    let p = c .before .before .before .before .before .before .before .pre in
-    is-neither _ _ _ (p .0) (p .1) (sym (c .before .before .before .before .spells .ensures) ∙ c .before .before .before .if1 .left) (sym (c .before .spells2 .ensures) ∙ c .if2 .left)
+    let p = c .before .before .before .before .pre in
+    no-word _ _ _ _ (p .0) (p .1) (c .before .before .next-token .ensures) (c .before .match .keys2) (c .offset2 .ensures)
 
 pub constant-spec : {M : Type 1} → statement M
-constant-spec =
-    tie.close
-    (tie.spec
-    slice-aggregate-spells
-    spells-requires
-    returns
-    slice-aggregate-spells-2
-    spells-requires-2
-    returns-2
-    returns-3)
+constant-spec = tie.close (tie.spec next-token-requires enum-known-offset word-requires offset-requires returns returns-2)

@@ -1,9 +1,9 @@
 -- `atoms::letters_with` meets its contract.
-use mathlib.Core.Path.{_≡_, sym, subst}
+use mathlib.Core.Path.{sym, subst}
 use native.Mathlib.Omega.{arith}
 use Rattle.hoa_text.specs.Labels.{proposition}
 use Rattle.labels.specs.Answers.{Satisfy}
-use Rattle.labels.proofs.Laws.{letters-0, letters-1, letters-2, letters-3, letters-past}
+use Rattle.labels.proofs.LetterSets.{letters-0, letters-1, letters-2, letters-3, letters-past}
 use Rattle.labels.proofs.atoms.letters_with.Statement.{statement}
 use Rattle.labels.proofs.atoms.letters_with.Tie as tie
 
