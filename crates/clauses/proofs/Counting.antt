@@ -18,14 +18,14 @@ use Rattle.encoding.specs.Numbering.{split}
 use Rattle.variables.specs.declared.sizes.Sizes.{Sizes}
 use Rattle.variables.specs.Sizes.{Dimensioned, Fitting}
 use Rattle.variables.specs.Limits.{candidate-subsets-le, reference-subsets-le}
-use Rattle.variables.specs.Numbers.{counted}
+use Rattle.variables.specs.Numbers.{counted, lastVariable}
 use Rattle.clause_list.specs.declared.position.Extent.{Extent}
 use Rattle.clause_list.specs.Tables.{Measured, tabled, measured-tables}
 use Rattle.clause_list.specs.Position.{ExtentOf}
 use Rattle.clauses.specs.ClosureCount.{pairsFor, closureCount, closure-length}
 use Rattle.clauses.specs.declared.header.Totals.{Totals}
 use Rattle.clauses.specs.declared.header.Totals.the-variants.{Of, Refused}
-use Rattle.clauses.specs.Header.{HeaderTotals, Headed, lastVariable}
+use Rattle.clauses.specs.Header.{HeaderTotals, Headed}
 
 -- ---- a sum in a loop
 
@@ -70,24 +70,6 @@ module _ {z : Sizes} (f : Fitting z) where
   transition-place y h =
       let s = split y (z .reference .states) (z .letters) h in
       (omega (arith, s .0, f .r-le), omega (arith, s .1, f .letters-le))
-
-  -- ---- V
-
-  pub states-le : z .candidate .states * z .reference .states ≤ 128
-  states-le = mul-le-mul (f .n-le) (f .r-le)
-
-  pub states-square-le : z .candidate .states * z .reference .states * (z .candidate .states * z .reference .states) ≤ 16384
-  states-square-le = mul-le-mul states-le states-le
-
-  pub markings-le : z .candidate .subsets * z .reference .subsets ≤ 256
-  markings-le = mul-le-mul (candidate-subsets-le f) (reference-subsets-le f)
-
-  pub paths-le : z .candidate .states * z .reference .states * (z .candidate .states * z .reference .states) * (z .candidate .subsets * z .reference .subsets) ≤ 4194304
-  paths-le = mul-le-mul states-square-le markings-le
-
-  pub last-variable-is : z .marks
-      + z .candidate .states * z .reference .states * (z .candidate .states * z .reference .states) * (z .candidate .subsets * z .reference .subsets) ≡ lastVariable z
-  last-variable-is = rw (f .marks-is, f .steps-is, f .candidate-subsets, f .reference-subsets) (omega arith)
 
 -- ---- C
 

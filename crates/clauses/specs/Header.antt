@@ -7,8 +7,6 @@ use Rattle.automaton.specs.Value.{Valid}
 use Rattle.automaton.specs.View.{view}
 use Rattle.encoding.specs.Variables.{base-variables}
 use Rattle.encoding.specs.Clauses.{base-file}
-use Rattle.variables.specs.declared.sizes.Sizes.{Sizes}
-use Rattle.variables.specs.Numbers.{counted}
 use Rattle.variables.specs.Sizes.{Dimensioned, Refuses}
 use Rattle.clauses.specs.declared.header.Totals.{Totals}
 use Rattle.clauses.specs.declared.header.Totals.the-variants.{Of, Refused}
@@ -21,7 +19,3 @@ HeaderTotals a n m (Refused f) = ⊥
 abbrev pub Headed : Automaton → (n m : ℕ) → Totals → Type 0
 Headed a n m (Of last count) = Valid a × Dimensioned n m × HeaderTotals a n m (Of last count)
 Headed a n m (Refused f) = Refuses a n m f
-
--- V by the sizes
-abbrev pub lastVariable : Sizes → ℕ
-lastVariable z = base-variables (counted z) (z .candidate .states) (z .candidate .sets)

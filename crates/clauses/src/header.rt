@@ -6,12 +6,13 @@ use clause_list::indices::entry;
 use clause_list::position::extent_of;
 use variables::sizes::Sized;
 use variables::sizes::Sizes;
+use variables::sizes::last_variable;
 use variables::sizes::measure;
 ghost use mathlib.Core.Path.{_≡_};
 ghost use Prim.Native.Nat.{_^_, _≤_, _<_};
 ghost use Rattle.variables.specs.Sizes.{Fitting};
 ghost use Rattle.clause_list.specs.Tables.{Measured};
-ghost use Rattle.clauses.specs.Header.{Headed, HeaderTotals, lastVariable};
+ghost use Rattle.clauses.specs.Header.{Headed, HeaderTotals};
 ghost use Rattle.clauses.specs.ClosureCount.{pairsFor, closuresBy, closureCount};
 
 pub enum Totals {
@@ -41,15 +42,6 @@ fn totals_of(reference: Automaton, z: Sizes) -> Totals
     let variables = last_variable(z);
     let clauses = g.first + g.second + g.third + n * n * closure_count(z, &marks);
     Totals::Of(variables as u64, clauses as u64)
-}
-
-// V: the steps, the marks and the paths.
-fn last_variable(z: Sizes) -> usize
-    requires { ⌜ Fitting z ⌝ }
-    ensures { λ r. ⌜ r ≡ lastVariable z ⌝ }
-{
-    let pairs = z.candidate.states * z.reference.states;
-    z.marks + pairs * pairs * (z.candidate.subsets * z.reference.subsets)
 }
 
 // The length of group 4 for each q and p, summed over the reference's transitions.

@@ -1,85 +1,32 @@
 -- What a call is answered, by what was judged before it.
-use mathlib.Core.Path.{_≡_, refl, sym, ap, _∙_}
+use mathlib.Core.Path.{_≡_, sym, subst}
 use Prim.Native.Nat.{ℕ}
-use native.Mathlib.Omega.{arith}
-use denote.Enum.Declared.{tagOf, declared}
 use Rattle.automaton.specs.declared.Automaton.{Automaton}
 use Rattle.automaton.specs.declared.refusal.Refusal.{Refusal}
-use Rattle.automaton.specs.declared.refusal.Refusal.the-variants.{Outside, Dimensions}
-use Rattle.automaton.specs.Value.{Valid}
+use Rattle.variables.specs.declared.sizes.Sizes.{Sizes}
+use Rattle.variables.specs.declared.sizes.Sized.{Sized}
+use Rattle.variables.specs.declared.sizes.Sized.the-variants.{Of, Refused}
+use Rattle.variables.specs.Sizes.{Sizing, Fitting, outside, dimensions}
+use Rattle.variables.specs.Limits.{sizes-fit}
 use Rattle.solution.specs.declared.Reader.{Reader}
 use Rattle.solution.specs.declared.Reply.{Reply}
-use Rattle.solution.specs.declared.Answer.{Answer}
-use Rattle.solution.specs.declared.Answer.the-variants.{Accepted, Refused}
-use Rattle.solution.specs.Calls.{InRange, Sizes, Called, refusal}
-use Rattle.solution.specs.Objection.{Objection}
-use Rattle.solution.proofs.Answer.{enum}
+use Rattle.solution.specs.Calls.{InRange, Called, refusal}
+use Rattle.solution.specs.Objection.{Objects, state, call, Judged}
 
-clash : {P : Type 0} (x : Refusal) → Refused x ≡ Accepted → P
-clash x e = let z : _≡_ {A = ℕ} 0 1 = cc in absurd (omega arith)
+module _ (a : Automaton) (n m : ℕ) (r : Reader) where
+  -- a state in its ranges, and what was measured
+  pub judged : InRange r → (x : Sized) → Sizing a n m x → Judged a n m r x
+  judged h (Of z) (v, d, e) = (h, v, d, e)
+  judged h (Refused f) s = call h s
 
-pub accepted-tag : (x : Answer) → tagOf (declared enum) x ≡ 0 → x ≡ Accepted
-accepted-tag Accepted e = refl
-accepted-tag (Refused x) e = absurd (omega arith)
+  pub judged-fits : {z : Sizes} → Judged a n m r (Of z) → Fitting z
+  judged-fits (h, v, d, e) = subst Fitting (sym e) (sizes-fit v d)
 
-module _ {a : Automaton} {n m : ℕ} {r : Reader} where
-  pub objection-automaton : (Valid a → ⊥) → Objection a n m r (Refused Outside)
-  objection-automaton h =
-      record {
-        automaton = λ v. refl;
-        state = λ s. refl;
-        sizes = λ v s z. absurd (h v);
-        none = λ v s z. absurd (h v);
-        passed = λ e. clash Outside e;
-      }
+  pub called-read : {z : Sizes} {read e : Reply} → Judged a n m r (Of z) → e ≡ read → Called a n m r read e
+  called-read (h, v, d, s) q = record { automaton = λ k. absurd (k v); state = λ k. absurd (k h); sizes = λ v s k. absurd (k d); text = λ v s z. q }
 
-  pub objection-state : (InRange r → ⊥) → Objection a n m r (Refused Outside)
-  objection-state h =
-      record {
-        automaton = λ v. refl;
-        state = λ s. refl;
-        sizes = λ v s z. absurd (h s);
-        none = λ v s z. absurd (h s);
-        passed = λ e. clash Outside e;
-      }
-
-  pub objection-sizes : Valid a → InRange r → (Sizes n m → ⊥) → Objection a n m r (Refused (Dimensions n m))
-  objection-sizes v s h =
-      record {
-        automaton = λ k. absurd (k v);
-        state = λ k. absurd (k s);
-        sizes = λ v s z. refl;
-        none = λ v s z. absurd (h z);
-        passed = λ e. clash (Dimensions n m) e;
-      }
-
-  pub objection-none : Valid a → InRange r → Sizes n m → Objection a n m r Accepted
-  objection-none v s z =
-      record {
-        automaton = λ k. absurd (k v);
-        state = λ k. absurd (k s);
-        sizes = λ v s k. absurd (k z);
-        none = λ v s z. refl;
-        passed = λ e. (v, s, z);
-      }
-
-  pub called-read : {x : Answer} {read e : Reply} → Objection a n m r x → x ≡ Accepted → e ≡ read → Called a n m r read e
-  called-read o h q =
-      record {
-        automaton = λ k. absurd (k (o .passed h .0));
-        state = λ k. absurd (k (o .passed h .1));
-        sizes = λ v s k. absurd (k (o .passed h .2));
-        text = λ v s z. q;
-      }
-
-  pub called-refused : {x : Answer} {read e : Reply} (y : Refusal) → Objection a n m r x → x ≡ Refused y → e ≡ refusal y r → Called a n m r read e
-  called-refused {e} y o h q =
-      record {
-        automaton = λ k. same (sym h ∙ o .automaton k);
-        state = λ k. same (sym h ∙ o .state k);
-        sizes = λ v s k. same (sym h ∙ o .sizes v s k);
-        text = λ v s z. clash y (sym h ∙ o .none v s z);
-      }
-    where
-      same : {z : Refusal} → Refused y ≡ Refused z → e ≡ refusal z r
-      same g = q ∙ ap (λ x. record { answer = x; reader = r }) g
+  pub called-refused : {f : Refusal} {read e : Reply} → Judged a n m r (Refused f) → e ≡ refusal f r → Called a n m r read e
+  called-refused (state k) q = record { automaton = λ v. q; state = λ s. q; sizes = λ v s z. absurd (k s); text = λ v s z. absurd (k s) }
+  called-refused (call h (outside k)) q = record { automaton = λ v. q; state = λ s. q; sizes = λ v s z. absurd (k v); text = λ v s z. absurd (k v) }
+  called-refused (call h (dimensions v k)) q =
+      record { automaton = λ i. absurd (i v); state = λ s. absurd (s h); sizes = λ v s z. q; text = λ v s z. absurd (k z) }

@@ -1,12 +1,15 @@
 -- DEFINITION: the public calls: the numbers of a file, the ranges of a carried state, and what is judged in which order.
 use mathlib.Core.Path.{_≡_}
-use Prim.Native.Nat.{ℕ, _+_, _*_, _^_, _≤_, _<_}
+use Prim.Native.Nat.{ℕ, _≤_, _<_}
 use mathlib.Core.List.{List, [], _∷_}
 use lib.ListN.{getD}
 use Rattle.automaton.specs.declared.Automaton.{Automaton}
 use Rattle.automaton.specs.declared.refusal.Refusal.{Refusal}
 use Rattle.automaton.specs.declared.refusal.Refusal.the-variants.{Outside, Dimensions}
-use Rattle.automaton.specs.Value.{Valid, letters}
+use Rattle.automaton.specs.Value.{Valid}
+use Rattle.automaton.specs.View.{view}
+use Rattle.encoding.specs.Variables.{base-variables}
+use Rattle.variables.specs.Sizes.{Dimensioned, sizesOf}
 use Rattle.solution.specs.declared.Reader.{Reader}
 use Rattle.solution.specs.declared.Reply.{Reply}
 use Rattle.solution.specs.declared.Answer.the-variants.{Refused}
@@ -14,17 +17,11 @@ use Rattle.solution.specs.Machine.{told, run, end}
 
 -- "after the nnL steps .. after those nnLm marks": the step and mark variables are those up to this number
 abbrev pub kept : Automaton → ℕ → ℕ → ℕ
-kept a n m = n * n * letters a + n * n * letters a * m
+kept a n m = sizesOf a n m .marks
 
--- V: the paths follow, one for each q, p, u, v, I, J
+-- V
 abbrev pub last : Automaton → ℕ → ℕ → ℕ
-last a n m = kept a n m + n * n * (a .states * a .states) * (2 ^ m * 2 ^ a .sets)
-
--- "n outside 1 to 8 or m outside 0 to 4" is turned down
-pub record Sizes (n m : ℕ) : Type 0 where
-  pub some : 1 ≤ n
-  pub few : n ≤ 8
-  pub sets : m ≤ 4
+last a n m = base-variables (view a) n m
 
 -- the ranges of the fields, which do not depend on n and m: no verdict has more than 13 letters, no number of a literal is kept past
 -- 2,000,000,009, and a variable is not named (0), true (1) or false (2)
@@ -41,8 +38,8 @@ refusal x r = record { answer = Refused x; reader = r }
 pub record Called (a : Automaton) (n m : ℕ) (r : Reader) (read e : Reply) : Type 0 where
   pub automaton : (Valid a → ⊥) → e ≡ refusal Outside r
   pub state : (InRange r → ⊥) → e ≡ refusal Outside r
-  pub sizes : Valid a → InRange r → (Sizes n m → ⊥) → e ≡ refusal (Dimensions n m) r
-  pub text : Valid a → InRange r → Sizes n m → e ≡ read
+  pub sizes : Valid a → InRange r → (Dimensioned n m → ⊥) → e ≡ refusal (Dimensions n m) r
+  pub text : Valid a → InRange r → Dimensioned n m → e ≡ read
 
 -- "its own state goes likewise from piece to piece, empty ones too": calls with the pieces of a list, from the state r to the state q
 pub data Reads (a : Automaton) (n m : ℕ) : Reader → List (List ℕ) → Reader → Type 0 where

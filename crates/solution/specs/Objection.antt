@@ -2,17 +2,21 @@
 use mathlib.Core.Path.{_≡_}
 use Prim.Native.Nat.{ℕ}
 use Rattle.automaton.specs.declared.Automaton.{Automaton}
-use Rattle.automaton.specs.declared.refusal.Refusal.the-variants.{Outside, Dimensions}
+use Rattle.automaton.specs.declared.refusal.Refusal.{Refusal}
+use Rattle.automaton.specs.declared.refusal.Refusal.the-variants.{Outside}
 use Rattle.automaton.specs.Value.{Valid}
+use Rattle.variables.specs.declared.sizes.Sized.{Sized}
+use Rattle.variables.specs.declared.sizes.Sized.the-variants.{Of, Refused}
+use Rattle.variables.specs.Sizes.{Dimensioned, Refuses, sizesOf}
 use Rattle.solution.specs.declared.Reader.{Reader}
-use Rattle.solution.specs.declared.Answer.{Answer}
-use Rattle.solution.specs.declared.Answer.the-variants.{Accepted, Refused}
-use Rattle.solution.specs.Calls.{InRange, Sizes}
+use Rattle.solution.specs.Calls.{InRange}
 
--- what is answered, and what is known where nothing speaks against reading
-pub record Objection (a : Automaton) (n m : ℕ) (r : Reader) (x : Answer) : Type 0 where
-  pub automaton : (Valid a → ⊥) → x ≡ Refused Outside
-  pub state : (InRange r → ⊥) → x ≡ Refused Outside
-  pub sizes : Valid a → InRange r → (Sizes n m → ⊥) → x ≡ Refused (Dimensions n m)
-  pub none : Valid a → InRange r → Sizes n m → x ≡ Accepted
-  pub passed : x ≡ Accepted → Valid a × InRange r × Sizes n m
+-- what speaks against reading
+pub data Objects (a : Automaton) (n m : ℕ) (r : Reader) : Refusal → Type 0 where
+  state : ¬ InRange r → Objects a n m r Outside
+  call : {f : Refusal} → InRange r → Refuses a n m f → Objects a n m r f
+
+-- the sizes of the file, or the objection
+abbrev pub Judged : Automaton → ℕ → ℕ → Reader → Sized → Type 0
+Judged a n m r (Of z) = InRange r × Valid a × Dimensioned n m × (z ≡ sizesOf a n m)
+Judged a n m r (Refused f) = Objects a n m r f

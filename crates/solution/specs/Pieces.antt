@@ -16,7 +16,8 @@ use Rattle.solution.specs.declared.scan.Place.{Place}
 use Rattle.solution.specs.declared.scan.Place.the-variants.{Start, Comment, AfterS, BeforeWord, Word, AfterWord, AfterToken, BeforeToken, AfterMinus, Digits, Ended, BadForm, BadLiteral}
 use Rattle.solution.specs.SolverText.{Seen, Outcome, gives, refused, outcome}
 use Rattle.solution.specs.Machine.{at-rest, step, run, end, answerAt, fresh}
-use Rattle.solution.specs.Calls.{InRange, Sizes, Reads, none, piece, Ends, last, kept}
+use Rattle.variables.specs.Sizes.{Dimensioned}
+use Rattle.solution.specs.Calls.{InRange, Reads, none, piece, Ends, last, kept}
 use Rattle.solution.specs.Counts.{kept-le, last-le}
 use Rattle.solution.specs.Range.{run-kept}
 use Rattle.solution.specs.Table.{table}
@@ -30,7 +31,7 @@ run-append : (last kept : ℕ) (r : Reader) (u w : List ℕ) → run last kept r
 run-append last kept r [] w = refl
 run-append last kept r (b ∷ u) w = run-append last kept (step last kept (r .scan) (r .named) b) u w
 
-module _ {a : Automaton} {n m : ℕ} (v : Valid a) (z : Sizes n m) where
+module _ {a : Automaton} {n m : ℕ} (v : Valid a) (z : Dimensioned n m) where
   -- for every list of pieces, and from every state in its ranges
   pub pieces : {r q : Reader} {us : List (List ℕ)} → InRange r → Reads a n m r us q → q ≡ run (last a n m) (kept a n m) r (joined us)
   pieces h none = refl
@@ -101,7 +102,7 @@ module _ (kept : ℕ) where
   tells BadLiteral s t x p e = failed-tells (at-rest s t) (Literal (s .at)) x e
 
 -- "Text may arrive cut anywhere; the answer is that of the whole text": a fresh reader, calls with any pieces, and the end
-pub whole-text : {a : Automaton} {n m : ℕ} → Valid a → Sizes n m → {us : List (List ℕ)} {q : Reader} {e : Reply} → Reads a n m fresh us q → Ends a n m q e
+pub whole-text : {a : Automaton} {n m : ℕ} → Valid a → Dimensioned n m → {us : List (List ℕ)} {q : Reader} {e : Reply} → Reads a n m fresh us q → Ends a n m q e
     → Tells (kept a n m) (outcome (last a n m) (kept a n m) (joined us)) e
 whole-text {a} {n} {m} v z {us} {q} {e} k c =
     let L = last a n m in

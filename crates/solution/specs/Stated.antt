@@ -14,7 +14,8 @@ use Rattle.solution.specs.declared.scan.Place.the-variants.{Ended}
 use Rattle.solution.specs.declared.scan.Verdict.the-variants.{Satisfiable}
 use Rattle.solution.specs.Assignment.{States}
 use Rattle.solution.specs.Machine.{fresh}
-use Rattle.solution.specs.Calls.{Sizes, Reads, Ends, last, kept}
+use Rattle.variables.specs.Sizes.{Dimensioned}
+use Rattle.solution.specs.Calls.{Reads, Ends, last, kept}
 use Rattle.solution.specs.Counts.{kept-le}
 use Rattle.solution.specs.Table.{table-asserted}
 use Rattle.solution.specs.Pieces.{joined, whole-text}
@@ -26,7 +27,7 @@ pub record Holds (kept : ℕ) (assignment : ℕ → Bool) (e : Reply) : Type 0 w
   pub verdict : e .reader .scan .verdict ≡ Satisfiable
   pub named : (v : ℕ) → 0 < v → v ≤ kept → eqb (getD (e .reader .named) v 0) 1 ≡ assignment v
 
-pub stated : {a : Automaton} {n m : ℕ} → Valid a → Sizes n m → {us : List (List ℕ)} {q : Reader} {e : Reply} → Reads a n m fresh us q → Ends a n m q e
+pub stated : {a : Automaton} {n m : ℕ} → Valid a → Dimensioned n m → {us : List (List ℕ)} {q : Reader} {e : Reply} → Reads a n m fresh us q → Ends a n m q e
     → {assignment : ℕ → Bool} → States (last a n m) (kept a n m) (joined us) assignment → Holds (kept a n m) assignment e
 stated {a} {n} {m} v z {us} {q} {e} k c s =
     let t = whole-text v z k c in

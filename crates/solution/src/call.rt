@@ -3,31 +3,29 @@ use crate::Answer;
 use crate::Reader;
 use crate::Reply;
 use automaton::Automaton;
-use automaton::powers::power_of_two;
 use automaton::refusal::Refusal;
+use variables::sizes::Sized;
+use variables::sizes::Sizes;
+use variables::sizes::last_variable;
+use variables::sizes::measure;
 ghost use mathlib.Core.Path.{_≡_};
 ghost use mathlib.Core.Logic.{_↔_};
 ghost use mathlib.Core.Bool.{true};
-ghost use Prim.Native.Nat.{ℕ, _+_, _*_, _^_, _≤_, _<_};
+ghost use Prim.Native.Nat.{ℕ, _≤_, _<_};
 ghost use lib.ListN.{getD};
-ghost use Rattle.automaton.specs.Value.{Valid};
-ghost use Rattle.solution.specs.Calls.{InRange, Sizes, refusal, last, kept};
-ghost use Rattle.solution.specs.Objection.{Objection};
+ghost use Rattle.variables.specs.Sizes.{Fitting};
+ghost use Rattle.variables.specs.Numbers.{lastVariable};
+ghost use Rattle.solution.specs.Calls.{InRange, refusal};
+ghost use Rattle.solution.specs.Objection.{Judged};
 
-// 4 for the automaton, 4 for the state, 8.
-pub fn objection(reader: Reader, reference: Automaton, n: usize, m: usize) -> Answer
-    ensures { λ r. ⌜ Objection reference n m reader r ⌝ }
+// 4 for the state or the automaton, 8; or the sizes of the file.
+pub fn judge(reader: Reader, reference: Automaton, n: usize, m: usize) -> Sized
+    ensures { λ r. ⌜ Judged reference n m reader r ⌝ }
 {
-    if !reference.valid() {
-        return Answer::Refused(Refusal::Outside);
-    }
     if !in_range(reader) {
-        return Answer::Refused(Refusal::Outside);
+        return Sized::Refused(Refusal::Outside);
     }
-    if !sizes_fit(n, m) {
-        return Answer::Refused(Refusal::Dimensions(n, m));
-    }
-    Answer::Accepted
+    measure(reference, n, m)
 }
 
 pub fn refused(x: Refusal, reader: Reader) -> Reply
@@ -66,34 +64,18 @@ fn entries_fit(named: &[u8; Reader::SLOTS]) -> bool
     true
 }
 
-fn sizes_fit(n: usize, m: usize) -> bool
-    ensures { λ r. ⌜ (r ≡ true) ↔ Sizes n m ⌝ }
-{
-    if n < 1 {
-        return false;
-    }
-    if n > Automaton::CANDIDATE_STATES {
-        return false;
-    }
-    m <= Automaton::SETS
-}
-
 // The last variable of the file, and the last step or mark variable.
 pub struct Variables {
     pub last: u32,
     pub kept: u32,
 }
 
-pub fn count_variables(reference: Automaton, n: usize, m: usize) -> Variables
-    requires { ⌜ Valid reference × Sizes n m ⌝ }
-    ensures { λ r. ⌜ (r .last ≡ last reference n m) × (r .kept ≡ kept reference n m) × (r .kept ≤ 5120) ⌝ }
+pub fn variables_of(z: Sizes) -> Variables
+    requires { ⌜ Fitting z ⌝ }
+    ensures { λ r. ⌜ (r .last ≡ lastVariable z) × (r .kept ≡ z .marks) × (r .kept ≤ 5120) ⌝ }
 {
-    let steps = n * n * power_of_two(reference.propositions);
-    let kept = steps + steps * m;
-    let pairs = n * n * (reference.states * reference.states);
-    let paths = pairs * (power_of_two(m) * power_of_two(reference.sets));
     Variables {
-        last: (kept + paths) as u32,
-        kept: kept as u32,
+        last: last_variable(z) as u32,
+        kept: z.marks as u32,
     }
 }

@@ -4,6 +4,7 @@ use automaton::refusal::Refusal;
 use call::Variables;
 use scan::Place;
 use scan::Scan;
+use variables::sizes::Sized;
 ghost use mathlib.Core.Path.{_≡_};
 ghost use Prim.Native.Nat.{_≤_};
 ghost use Rattle.solution.specs.Calls.{Called, InRange, last, kept};
@@ -57,10 +58,9 @@ impl Reader {
     pub fn read(self, reference: Automaton, n: usize, m: usize, piece: &[u8]) -> Reply
         ensures { λ e. ⌜ Called reference n m self (told (run (last reference n m) (kept reference n m) self (now (piece .entry)))) e ⌝ }
     {
-        let objection = call::objection(self, reference, n, m);
-        match objection {
-            Answer::Accepted => read_piece(self, piece, call::count_variables(reference, n, m)),
-            Answer::Refused(x) => call::refused(x, self),
+        match call::judge(self, reference, n, m) {
+            Sized::Of(z) => read_piece(self, piece, call::variables_of(z)),
+            Sized::Refused(x) => call::refused(x, self),
         }
     }
 
@@ -68,10 +68,9 @@ impl Reader {
     pub fn finish(self, reference: Automaton, n: usize, m: usize) -> Reply
         ensures { λ e. ⌜ Called reference n m self (told (end (last reference n m) (kept reference n m) self)) e ⌝ }
     {
-        let objection = call::objection(self, reference, n, m);
-        match objection {
-            Answer::Accepted => end_text(self, call::count_variables(reference, n, m)),
-            Answer::Refused(x) => call::refused(x, self),
+        match call::judge(self, reference, n, m) {
+            Sized::Of(z) => end_text(self, call::variables_of(z)),
+            Sized::Refused(x) => call::refused(x, self),
         }
     }
 }

@@ -3,7 +3,7 @@ use mathlib.Core.Path.{_≡_}
 use mathlib.Core.Bool.{true, false}
 use Prim.Native.Nat.{ℕ, _≤_, _<_}
 use Rattle.meaning.specs.Automata.{Aut}
-use Rattle.encoding.specs.Variables.{Var, Present, base, base-number}
+use Rattle.encoding.specs.Variables.{Var, Present, base, base-number, base-variables}
 use Rattle.variables.specs.declared.sizes.Sizes.{Sizes}
 use Rattle.variables.specs.Sizes.{Fitting}
 
@@ -25,6 +25,10 @@ InFile z x = Present (base (counted z) (z .candidate .states) (z .candidate .set
 
 abbrev pub numberOf : Sizes → Var → ℕ
 numberOf z = base-number (counted z) (z .candidate .states) (z .candidate .sets)
+
+-- V
+abbrev pub lastVariable : Sizes → ℕ
+lastVariable z = base-variables (counted z) (z .candidate .states) (z .candidate .sets)
 
 -- k is the number of x, from 1 to the largest that any file has
 pub record Numbered (z : Sizes) (x : Var) (k : ℕ) : Type 0 where

@@ -31,7 +31,7 @@ add-clauses-3 : tie.Need-add-clauses-3
 add-clauses-3 c = omega (arith, c .before .before .before .before .before .extent-of .ensures .all-is, c .before .before .before .before .before .extent-of .ensures .all-le, closures-cap (measured-tables (c .before .before .before .before .before .before .before .pre) .fits .n-le) (c .closure-count .ensures .1))
 
 returns : tie.Need-returns
-returns c = (c .before .before .before .before .last-variable .ensures ∙ variables-are (c .before .before .before .before .before .before .before .pre), clauses-are (c .before .before .before .before .before .before .before .pre) (c .before .before .before .before .before .extent-of .ensures) (c .closure-count .ensures .0))
+returns c = (c .before .before .before .before .last-variable .ensures .0 ∙ variables-are (c .before .before .before .before .before .before .before .pre), clauses-are (c .before .before .before .before .before .before .before .pre) (c .before .before .before .before .before .extent-of .ensures) (c .closure-count .ensures .0))
 
 pub totals-of-spec : {M : Type 1} → statement M
 totals-of-spec =

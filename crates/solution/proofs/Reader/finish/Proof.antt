@@ -1,47 +1,50 @@
 -- `Reader::finish` meets its contract.
-use mathlib.Core.Path.{_∙_, ap₂}
-use Rattle.solution.proofs.CallLaws.{accepted-tag, called-read, called-refused}
-use Rattle.solution.specs.Machine.{told, end}
+use mathlib.Core.Path.{ap, ap₂, subst, _∙_}
 use Prim.Native.Nat.{ℕ}
+use Rattle.variables.specs.declared.sizes.Sizes.{Sizes}
+use Rattle.variables.specs.Numbers.{lastVariable}
+use Rattle.solution.specs.Machine.{told, end}
+use Rattle.solution.specs.Objection.{Judged}
+use Rattle.solution.proofs.CallLaws.{judged-fits, called-read, called-refused}
 use borrow.Author.Needs.{needs}
 use Rattle.solution.proofs.Reader.finish.Statement.{statement}
 use Rattle.solution.proofs.Reader.finish.Tie as tie
 
-objection-requires : tie.Need-objection-requires
-objection-requires c κs = search needs
+judge-requires : tie.Need-judge-requires
+judge-requires c κs = search needs
 
-enum-told : tie.Need-enum-told
-enum-told c = search needs
+enum-known-z : tie.Need-enum-known-z
+enum-known-z c = search needs
 
-count-variables-requires : tie.Need-count-variables-requires
-count-variables-requires c κs = let p = c .before .before .objection .ensures .passed (accepted-tag _ (c .before .match .keys1)) in (p .0, p .2)
+variables-of-requires : tie.Need-variables-of-requires
+variables-of-requires c κs =
+    let a = c .before .before .before .before .args in
+    judged-fits _ _ _ _ (subst (Judged (a .reference) (a .n) (a .m) (a .self)) (c .before .z .given .1) (c .before .before .before .judge .ensures))
 
 end-text-requires : tie.Need-end-text-requires
-end-text-requires c κs = (c .before .before .before .objection .ensures .passed (accepted-tag _ (c .before .before .match .keys1)) .1, c .count-variables .ensures .2)
+end-text-requires c κs =
+    let a = c .before .before .before .before .before .args in
+    let j = subst (Judged (a .reference) (a .n) (a .m) (a .self)) (c .before .before .z .given .1) (c .before .before .before .before .judge .ensures) in
+    (j .0, c .variables-of .ensures .2)
 
-enum-known-objection : tie.Need-enum-known-objection
-enum-known-objection c = search needs
+enum-known-x : tie.Need-enum-known-x
+enum-known-x c = search needs
 
 refused-requires : tie.Need-refused-requires
 refused-requires c κs = search needs
 
 returns : tie.Need-returns
 returns c =
-    let f = c .before .count-variables .ensures in
-    called-read (c .before .before .before .before .objection .ensures) (accepted-tag _ (c .before .before .before .match .keys1)) (c .end-text .ensures ∙ ap₂ (λ (x y : ℕ). told (end x y (c .before .before .before .before .before .args .self))) (f .0) (f .1))
+    let a = c .before .before .before .before .before .before .args in
+    let j = subst (Judged (a .reference) (a .n) (a .m) (a .self)) (c .before .before .before .z .given .1) (c .before .before .before .before .before .judge .ensures) in
+    let f = c .before .variables-of .ensures in
+    called-read _ _ _ _ j
+    (c .end-text .ensures ∙ ap₂ (λ (x y : ℕ). told (end x y (a .self))) (f .0 ∙ ap lastVariable (j .3)) (f .1 ∙ ap (λ (z : Sizes). z .marks) (j .3)))
 
 returns-2 : tie.Need-returns-2
-returns-2 c = let e = c .before .before .objection2 .given in called-refused _ (c .before .before .before .before .objection .ensures) (e .1) (c .refused .ensures)
+returns-2 c =
+    let a = c .before .before .before .before .before .args in
+    called-refused _ _ _ _ (subst (Judged (a .reference) (a .n) (a .m) (a .self)) (c .before .before .x .given .1) (c .before .before .before .before .judge .ensures)) (c .refused .ensures)
 
 pub finish-spec : {M : Type 1} → statement M
-finish-spec =
-    tie.close
-    (tie.spec
-    objection-requires
-    enum-told
-    count-variables-requires
-    end-text-requires
-    enum-known-objection
-    refused-requires
-    returns
-    returns-2)
+finish-spec = tie.close (tie.spec judge-requires enum-known-z variables-of-requires end-text-requires enum-known-x refused-requires returns returns-2)

@@ -1,9 +1,8 @@
 -- `last_variable` meets its contract.
-use Rattle.variables.specs.Limits.{marks-le}
-use Rattle.clauses.proofs.Counting.{states-le, states-square-le, markings-le, paths-le, last-variable-is}
+use Rattle.variables.specs.Limits.{marks-le, states-le, states-square-le, markings-le, paths-le, last-variable-is}
 use native.Mathlib.Omega.{arith}
-use Rattle.clauses.proofs.header.last_variable.Statement.{statement}
-use Rattle.clauses.proofs.header.last_variable.Tie as tie
+use Rattle.variables.proofs.sizes.last_variable.Statement.{statement}
+use Rattle.variables.proofs.sizes.last_variable.Tie as tie
 
 mul-pairs : tie.Need-mul-pairs
 mul-pairs c = omega (arith, states-le (c .before .pre))
@@ -21,7 +20,7 @@ add-result : tie.Need-add-result
 add-result c = omega (arith, paths-le (c .before .before .before .pre), marks-le (c .before .before .before .pre))
 
 returns : tie.Need-returns
-returns c = last-variable-is (c .before .before .before .pre)
+returns c = let f = c .before .before .before .pre in (last-variable-is f, omega (arith, paths-le f, marks-le f))
 
 pub last-variable-spec : {M : Type 1} → statement M
 last-variable-spec =

@@ -1,0 +1,22 @@
+-- `call::variables_of` meets its contract.
+use mathlib.Core.Path.{refl}
+use native.Mathlib.Omega.{arith}
+use Rattle.variables.specs.Limits.{marks-le}
+use borrow.Author.Needs.{needs}
+use Rattle.solution.proofs.call.variables_of.Statement.{statement}
+use Rattle.solution.proofs.call.variables_of.Tie as tie
+
+last-variable-requires : tie.Need-last-variable-requires
+last-variable-requires c κs = search needs
+
+cast-t3 : tie.Need-cast-t3
+cast-t3 c = search needs
+
+cast-t4 : tie.Need-cast-t4
+cast-t4 c = search needs
+
+returns : tie.Need-returns
+returns c = (c .before .last-variable .ensures .0, refl, marks-le (c .before .before .pre))
+
+pub variables-of-spec : {M : Type 1} → statement M
+variables-of-spec = tie.close (tie.spec last-variable-requires cast-t3 cast-t4 returns)
