@@ -1,13 +1,67 @@
-//! Whether a printed answer is right, where document 01 leaves the word to the program.
+//! Whether what was printed for an input is right. Document 01 leaves 12's word to the program, so
+//! words are checked; everything else is compared byte for byte.
 
 use crate::automaton::*;
+use crate::clauses::File;
 use crate::compare::*;
+use crate::decode::{decode, Decoded};
+use crate::hoa;
+use crate::printed::*;
+use crate::search::Search;
+
+pub type Checked = Result<(), String>;
+
+/// Where the answer due is a refusal, the printed one is that line.
+fn unless_refused<T>(due: Result<T, Refusal>, printed: &[u8], check: impl FnOnce(T) -> Checked) -> Checked {
+    match due {
+        Ok(answer) => check(answer),
+        Err(refusal) => equal(printed, &refusal_text(&refusal)),
+    }
+}
+
+pub fn check_normalize(text: &[u8], printed: &[u8]) -> Checked {
+    unless_refused(hoa::read(text), printed, |given| equal(printed, &hoa::write(&given)))
+}
+
+pub fn check_clauses(reference: &[u8], n: u64, m: u64, printed: &[u8]) -> Checked {
+    let due = hoa::read(reference).and_then(|reference| Ok((reference, judge_sizes(n, m)?)));
+    unless_refused(due, printed, |(reference, (n, m))| {
+        let mut file = Vec::new();
+        File::new(&reference, n, m).print(&mut file).map_err(|error| error.to_string())?;
+        equal(printed, &file)
+    })
+}
+
+pub fn check_compare(first: &[u8], second: &[u8], printed: &[u8]) -> Checked {
+    let due = hoa::read(first).and_then(|first| Ok((first, hoa::read(second)?)));
+    unless_refused(due, printed, |(first, second)| check_comparison(&first, &second, printed))
+}
+
+pub fn check_decode(reference: &[u8], n: u64, m: u64, text: &[u8], printed: &[u8]) -> Checked {
+    let due = hoa::read(reference).and_then(|reference| Ok((decode(&reference, n, m, text)?, reference)));
+    unless_refused(due, printed, |(decoded, reference)| match decoded {
+        Decoded::Differs(table, _) => check_differs(&table, &reference, printed),
+        decoded => equal(printed, &decoded_text(&decoded)),
+    })
+}
+
+pub fn check_search(reference: &[u8], answers: &[Vec<u8>], printed: &[u8]) -> Checked {
+    unless_refused(hoa::read(reference), printed, |reference| {
+        let mut search = Search::new(&reference);
+        let told = answers.iter().try_for_each(|answer| search.answer(answer));
+        if let Err(Refusal { number: 12, .. }) = told {
+            let (pairs, sets) = (search.n * reference.states(), search.m.max(reference.sets));
+            return check_lengths(pairs, sets, printed);
+        }
+        unless_refused(told, printed, |()| equal(printed, &search_text(&search)))
+    })
+}
 
 /// `same`, or `differ P L` and a word.
-pub fn check_comparison(first: &Automaton, second: &Automaton, printed: &[u8]) -> Result<(), String> {
+fn check_comparison(first: &Automaton, second: &Automaton, printed: &[u8]) -> Checked {
     let right = match compare(first, second) {
         Ok(right) => right,
-        Err(refusal) => return equal(printed, format!("{refusal}\n").as_bytes()),
+        Err(refusal) => return equal(printed, &refusal_text(&refusal)),
     };
     if right == Comparison::Same || printed == b"same\n" {
         return equal(printed, comparison_text(&right).as_bytes());
@@ -17,30 +71,15 @@ pub fn check_comparison(first: &Automaton, second: &Automaton, printed: &[u8]) -
     fault(first, second, &word).map_or(Ok(()), Err)
 }
 
-/// What the comparison prints.
-pub fn comparison_text(comparison: &Comparison) -> String {
-    match comparison {
-        Comparison::Same => "same\n".to_string(),
-        Comparison::Differ(word) => {
-            format!("differ {} {}\n{}", word.prefix.len(), word.cycle.len(), word.lines())
-        }
-    }
-}
-
-/// What the decoder prints on 12.
-pub fn differs_text(word: &Word) -> String {
-    format!("{}\n{}", word.refusal(), word.lines())
-}
-
 /// 12 of the decoder with its word. The decoded table is the first.
-pub fn check_differs(table: &Automaton, reference: &Automaton, printed: &[u8]) -> Result<(), String> {
+fn check_differs(table: &Automaton, reference: &Automaton, printed: &[u8]) -> Checked {
     let word = printed_word(printed)?;
     equal(printed, differs_text(&word).as_bytes())?;
     fault(table, reference, &word).map_or(Ok(()), Err)
 }
 
 /// 12 of the search, which prints the two lengths only; N is `pairs`, the larger set count `sets`.
-pub fn check_lengths(pairs: usize, sets: usize, printed: &[u8]) -> Result<(), String> {
+fn check_lengths(pairs: usize, sets: usize, printed: &[u8]) -> Checked {
     let text = String::from_utf8_lossy(printed);
     let lengths: Vec<usize> = text.split_whitespace().skip(2).filter_map(|number| number.parse().ok()).collect();
     let [prefix, cycle] = lengths[..] else {
@@ -51,7 +90,7 @@ pub fn check_lengths(pairs: usize, sets: usize, printed: &[u8]) -> Result<(), St
 }
 
 /// Whether the two texts are the same, byte for byte.
-pub fn equal(printed: &[u8], due: &[u8]) -> Result<(), String> {
+fn equal(printed: &[u8], due: &[u8]) -> Checked {
     if printed == due {
         return Ok(());
     }
@@ -83,7 +122,7 @@ mod tests {
         Automaton { start: 0, sets, names: vec![b"a".to_vec()], table: vec![row] }
     }
 
-    fn checked(printed: &str) -> Result<(), String> {
+    fn checked(printed: &str) -> Checked {
         check_comparison(&one_state(1, [0, 1]), &one_state(1, [1, 1]), printed.as_bytes())
     }
 

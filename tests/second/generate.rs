@@ -21,6 +21,13 @@ impl Random {
         Random { state: seed }
     }
 
+    /// The numbers of one case: they depend on the seed and its own number only.
+    pub fn of_case(seed: u64, case: usize) -> Random {
+        let mut random = Random::new(Random::new(seed).next() ^ case as u64);
+        random.next();
+        random
+    }
+
     pub fn next(&mut self) -> u64 {
         self.state = self.state.wrapping_add(0x9e37_79b9_7f4a_7c15);
         let mut mixed = self.state;
@@ -249,9 +256,7 @@ pub fn generate(kind: &str, seed: u64, count: usize, directory: &Path) -> io::Re
     };
     fs::create_dir_all(directory)?;
     for case in 0..count {
-        let mut random = Random::new(Random::new(seed).next() ^ case as u64);
-        random.next();
-        write(&mut random, &|end: &str| directory.join(format!("{case:05}.{end}")))?;
+        write(&mut Random::of_case(seed, case), &|end: &str| directory.join(format!("{case:05}.{end}")))?;
     }
     Ok(())
 }
@@ -286,7 +291,7 @@ fn write_search(random: &mut Random, name: Names) -> io::Result<()> {
 
 /// Two automata: the same but for names, copies and sets; nearly that; or any two. Now and then
 /// they have not the same number of propositions.
-fn pair(random: &mut Random) -> (Automaton, Automaton) {
+pub fn pair(random: &mut Random) -> (Automaton, Automaton) {
     let (states, k, sets) = random_sizes(random);
     let first = random_automaton(random, states, k, sets);
     if random.one_in(40) {

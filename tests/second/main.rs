@@ -10,10 +10,13 @@
 //!     search REFERENCE [ANSWER-FILE ..]
 //!     check-search REFERENCE PRINTED [ANSWER-FILE ..]
 //!     generate hoa|pairs|solver|search SEED COUNT DIRECTORY
+//!     against PROGRAMS SEED COUNT DIRECTORY
 //!
 //! A refusal is one line `refused NUMBER A B` on standard output. The three `check` calls read
-//! what the first program printed for the same input and print `ok` or what is wrong with it.
+//! what the first program printed for the same input and print `ok` or what is wrong with it;
+//! `against` gives generated inputs to the programs in the folder PROGRAMS and does the same.
 
+mod against;
 mod automaton;
 mod check;
 mod clauses;
@@ -23,11 +26,12 @@ mod generate;
 mod generate_hoa;
 mod generate_solver;
 mod hoa;
+mod printed;
 mod search;
 mod solver;
 
 use automaton::{judge_sizes, Automaton, Refusal};
-use decode::Decoded;
+use printed::{comparison_text, decoded_text, refusal_text, search_text};
 use std::io::{self, BufWriter, Read, Write};
 use std::{env, fs, process};
 
@@ -59,6 +63,7 @@ fn main() {
         ["search", reference, ref answers @ ..] => search_answers(reference, answers),
         ["check-search", reference, printed, ref answers @ ..] => check_search(reference, printed, answers),
         ["generate", kind, seed, count, directory] => generate_files(kind, seed, count, directory),
+        ["against", programs, seed, count, directory] => against(programs, seed, count, directory),
         _ => Err(Problem::Unusable("the calls are listed at the head of main.rs".to_string())),
     };
     show(printed);
@@ -67,7 +72,7 @@ fn main() {
 fn show(printed: Printed) {
     let text = match printed {
         Ok(text) => text,
-        Err(Problem::Refused(refusal)) => format!("{refusal}\n").into_bytes(),
+        Err(Problem::Refused(refusal)) => refusal_text(&refusal),
         Err(Problem::Unusable(message)) => {
             eprintln!("{message}");
             process::exit(1);
@@ -122,48 +127,21 @@ fn print_clauses(n: &str, m: &str) -> Printed {
 fn compare_files(first: &str, second: &str) -> Printed {
     let (first, second) = (file(first)?, file(second)?);
     let comparison = compare::compare(&hoa::read(&first)?, &hoa::read(&second)?)?;
-    Ok(check::comparison_text(&comparison).into_bytes())
+    Ok(comparison_text(&comparison).into_bytes())
 }
 
 fn decode_input(reference: &str, n: &str, m: &str) -> Printed {
-    let decoded = decoded_input(reference, n, m)?;
-    Ok(decoded_text(&decoded))
-}
-
-fn decoded_input(reference: &str, n: &str, m: &str) -> Result<Decoded, Problem> {
     let (n, m) = (number(n)?, number(m)?);
-    Ok(decode::decode(&automaton(reference)?, n, m, io::stdin().lock())?)
-}
-
-fn decoded_text(decoded: &Decoded) -> Vec<u8> {
-    match decoded {
-        Decoded::Table(table) => hoa::write(table),
-        Decoded::None => b"none\n".to_vec(),
-        Decoded::Unknown => b"unknown\n".to_vec(),
-        Decoded::Differs(_, word) => check::differs_text(word).into_bytes(),
-    }
+    Ok(decoded_text(&decode::decode(&automaton(reference)?, n, m, io::stdin().lock())?))
 }
 
 fn search_answers(reference: &str, answers: &[&str]) -> Printed {
     let reference = automaton(reference)?;
     let mut search = search::Search::new(&reference);
-    replay(&mut search, answers)?;
-    Ok(search_text(&search))
-}
-
-fn replay(search: &mut search::Search, answers: &[&str]) -> Result<(), Problem> {
     for answer in answers {
         search.answer(&file(answer)?)?;
     }
-    Ok(())
-}
-
-fn search_text(search: &search::Search) -> Vec<u8> {
-    if !search.finished {
-        return format!("ask {} {}\n", search.n, search.m).into_bytes();
-    }
-    let first: &[u8] = if search.open { b"finished open\n" } else { b"finished\n" };
-    [first, &hoa::write(&search.best)].concat()
+    Ok(search_text(&search))
 }
 
 fn generate_files(kind: &str, seed: &str, count: &str, directory: &str) -> Printed {
@@ -176,55 +154,33 @@ fn generate_files(kind: &str, seed: &str, count: &str, directory: &str) -> Print
 // ---------------------------------------------------------------------------------------
 // Checks of printed answers
 
-fn verdict(checked: Result<(), String>) -> Printed {
+fn verdict(checked: check::Checked) -> Printed {
     Ok(match checked {
         Ok(()) => b"ok\n".to_vec(),
         Err(wrong) => format!("{wrong}\n").into_bytes(),
     })
 }
 
-/// Where the answer due is a refusal, the printed one is that line.
-fn check_refusal<T>(due: Result<T, Problem>, printed: &[u8]) -> Result<Result<T, Result<(), String>>, Problem> {
-    match due {
-        Ok(answer) => Ok(Ok(answer)),
-        Err(Problem::Refused(refusal)) => Ok(Err(check::equal(printed, format!("{refusal}\n").as_bytes()))),
-        Err(unusable) => Err(unusable),
-    }
-}
-
 fn check_compare(first: &str, second: &str, printed: &str) -> Printed {
-    let printed = file(printed)?;
-    let (first, second) = (file(first)?, file(second)?);
-    let read = || -> Result<_, Problem> { Ok((hoa::read(&first)?, hoa::read(&second)?)) };
-    verdict(match check_refusal(read(), &printed)? {
-        Ok((first, second)) => check::check_comparison(&first, &second, &printed),
-        Err(checked) => checked,
-    })
+    verdict(check::check_compare(&file(first)?, &file(second)?, &file(printed)?))
 }
 
 fn check_decode(reference: &str, n: &str, m: &str, printed: &str) -> Printed {
-    let printed = file(printed)?;
-    verdict(match check_refusal(decoded_input(reference, n, m), &printed)? {
-        Ok(Decoded::Differs(table, _)) => check::check_differs(&table, &automaton(reference)?, &printed),
-        Ok(decoded) => check::equal(&printed, &decoded_text(&decoded)),
-        Err(checked) => checked,
-    })
+    let (n, m) = (number(n)?, number(m)?);
+    verdict(check::check_decode(&file(reference)?, n, m, &input()?, &file(printed)?))
 }
 
 fn check_search(reference: &str, printed: &str, answers: &[&str]) -> Printed {
-    let printed = file(printed)?;
-    let reference = match check_refusal(automaton(reference), &printed)? {
-        Ok(reference) => reference,
-        Err(checked) => return verdict(checked),
-    };
-    let mut search = search::Search::new(&reference);
-    let replayed = replay(&mut search, answers);
-    if let Err(Problem::Refused(Refusal { number: 12, .. })) = replayed {
-        let (pairs, sets) = (search.n * reference.states(), search.m.max(reference.sets));
-        return verdict(check::check_lengths(pairs, sets, &printed));
+    let answers = answers.iter().map(|answer| file(answer)).collect::<Result<Vec<_>, _>>()?;
+    verdict(check::check_search(&file(reference)?, &answers, &file(printed)?))
+}
+
+fn against(programs: &str, seed: &str, count: &str, directory: &str) -> Printed {
+    let (seed, count) = (number(seed)?, number(count)? as usize);
+    let differences = against::against(programs.as_ref(), seed, count, directory.as_ref())
+        .map_err(|error| Problem::Unusable(format!("{programs}: {error}")))?;
+    if differences.is_empty() {
+        return Ok(format!("{count} inputs, no difference\n").into_bytes());
     }
-    verdict(match check_refusal(replayed, &printed)? {
-        Ok(()) => check::equal(&printed, &search_text(&search)),
-        Err(checked) => checked,
-    })
+    Err(Problem::Unusable(differences.join("\n")))
 }
