@@ -1,0 +1,48 @@
+-- What the tests say, and what the comparison's answer makes of a found table.
+use mathlib.Core.Path.{_≡_, sym, ap, _∙_}
+use mathlib.Core.Logic.{_↔_}
+use mathlib.Core.Bool.{Bool, true, false, not, true≢false}
+use mathlib.Core.List.{List}
+use Prim.Native.Nat.{ℕ, _^_}
+use native.Mathlib.Decide.{ℕ-discrete}
+use borrow.Author.Tests.{not-true, not-false}
+use Rattle.meaning.specs.Agreement.{Agree, Comparable}
+use Rattle.meaning.specs.Decision.{decide-agree}
+use Rattle.automaton.specs.declared.Automaton.{Automaton}
+use Rattle.automaton.specs.View.{view, view-formed}
+use Rattle.compare.specs.declared.Comparison.{Comparison}
+use Rattle.compare.specs.Compared.{Compared}
+use Rattle.search.specs.declared.Search.{Search}
+use Rattle.search.specs.declared.Reply.{Reply}
+use Rattle.search.specs.Replies.{Room, Admitted, AskedFor, Found, letters, differ, taken}
+use Rattle.search.specs.Judged.{judged}
+
+-- what a test that is `true` iff P says
+pub fails-not : {r : Bool} {P : Type 0} → (r ≡ true) ↔ P → not r ≡ true → ¬ P
+fails-not e t p = true≢false (sym (e .1 p) ∙ not-true _ t)
+
+pub passes-so : {r : Bool} {P : Type 0} → (r ≡ true) ↔ P → not r ≡ false → P
+passes-so e t = e .0 (not-false _ t)
+
+-- a table of the right size is answered by the comparison's promise
+module _ {s : Search} {table : Automaton} {p q l m : List ℕ} {x : Comparison} {r : Reply} (room : Room p l) (j : Admitted s table) (a : AskedFor s table)
+    (k : Compared table (s .reference) p q l m x) (e : r ≡ judged s table x) where
+  comparable : table .propositions ≡ s .reference .propositions → Comparable (view table) (view (s .reference))
+  comparable h = record { formed-A = view-formed (j .valid); formed-B = view-formed (j .in-range .reference); same-letters = ap (λ n. 2 ^ n) h }
+
+  by-agreement : table .propositions ≡ s .reference .propositions → Dec (Agree (view table) (view (s .reference))) → Found s table p q l m r
+  by-agreement h (yes g) =
+      let (is, same-prefix, same-loop) = k .same (room .prefix-room) (room .loop-room) (j .valid) (j .in-range .reference) h g in
+      taken room j a h g (e ∙ ap (judged s table) is, same-prefix, same-loop)
+  by-agreement h (no g) =
+      let w = k .differ (room .prefix-room) (room .loop-room) (j .valid) (j .in-range .reference) h g in
+      differ room j a h g (record { comparison = x; shown = w; says = e ∙ ap (judged s table) (w .says) })
+
+  by-letters : Dec (table .propositions ≡ s .reference .propositions) → Found s table p q l m r
+  by-letters (yes h) = by-agreement h (decide-agree (comparable h))
+  by-letters (no h) =
+      let (is, same-prefix, same-loop) = k .letters (room .prefix-room) (room .loop-room) (j .valid) (j .in-range .reference) h in
+      letters room j a h (e ∙ ap (judged s table) is, same-prefix, same-loop)
+
+  pub compared : Found s table p q l m r
+  compared = by-letters (ℕ-discrete (table .propositions) (s .reference .propositions))

@@ -1,0 +1,163 @@
+-- What every state of a search keeps, and how far each verdict that is taken brings it to its end.
+use mathlib.Core.Path.{_≡_, refl, sym, ap, _∙_, subst}
+use mathlib.Core.Logic.{⊎-elim}
+use mathlib.Core.Bool.{Bool, true, false, cond, _&&_, true≢false}
+use mathlib.Core.List.{List}
+use Prim.Native.Nat.{ℕ, _+_, _-_, _≤_, _<_}
+use native.Mathlib.Omega.{arith}
+use borrow.Author.Tests.{ltb-true, eqb-false}
+use lib.Dec.{ltb, eqb}
+use Rattle.meaning.specs.Automata.{Aut}
+use Rattle.meaning.specs.Agreement.{Agree, Distinguishes}
+use Rattle.meaning.specs.Decision.{witness-any}
+use Rattle.meaning.specs.Tests.{and-left, and-right}
+use Rattle.automaton.specs.declared.Automaton.{Automaton}
+use Rattle.automaton.specs.Value.{Valid}
+use Rattle.automaton.specs.View.{view, view-formed}
+use Rattle.search.specs.declared.Search.{Search}
+use Rattle.search.specs.Rule.{below, fresh, found, risen, ended, none}
+use Rattle.search.specs.Calls.{Verdict}
+use Rattle.search.specs.Moves.{Fitting, Moves, by-table, by-none, by-unknown}
+
+-- ---- an automaton agrees with itself
+
+not-apart : {A : Aut} {x y : List ℕ} → ¬ Distinguishes A A x y
+not-apart d = ⊎-elim (λ t. t .1 (t .0)) (λ t. t .0 (t .1)) (d .apart)
+
+pub agree-self : {a : Automaton} → Valid a → Agree (view a) (view a)
+agree-self v =
+    ⊎-elim (λ g. g) (λ w. absurd (not-apart (w .apart)))
+    (witness-any (record { formed-A = view-formed v; formed-B = view-formed v; same-letters = refl }))
+
+-- ---- what is kept
+
+pub record Kept (a : Automaton) (s : Search) : Type 0 where
+  pub reference : s .reference ≡ a
+  pub valid : Valid (s .best)
+  pub agrees : Agree (view (s .best)) (view a)
+  pub states-le : s .best .states ≤ a .states
+  pub same-propositions : s .best .propositions ≡ a .propositions
+  pub n-le : s .n ≤ 8
+  pub n-fewer : s .n < s .best .states
+  pub m-from : a .sets ≤ s .m
+  pub m-le : s .m ≤ 4
+  -- a table that this m brought has one state more than is asked for now
+  pub brought-by : s .brought ≡ true → s .best .states ≡ s .n + 1
+  pub n-some : s .finished ≡ false → 1 ≤ s .n
+  pub not-open : s .finished ≡ false → s .open ≡ false
+
+pub kept-fresh : {a : Automaton} → Valid a → Kept a (fresh a)
+kept-fresh {a} v = record {
+  reference = refl;
+  valid = v;
+  agrees = agree-self v;
+  states-le = omega arith;
+  same-propositions = refl;
+  n-le = omega arith;
+  n-fewer = omega (arith, v .start-lt);
+  m-from = omega arith;
+  m-le = v .sets-le;
+  brought-by = λ e. absurd (true≢false (sym e));
+  n-some = λ e. omega (arith, v .start-lt, eqb-false (a .states) 1 e);
+  not-open = λ e. refl;
+}
+
+module _ {a : Automaton} {s : Search} (k : Kept a s) (u : s .finished ≡ false) where
+  kept-found : {t : Automaton} → Fitting s t → Kept a (found t s)
+  kept-found {t} f =
+      let some : 1 ≤ s .n = k .n-some u in
+      record {
+        reference = k .reference;
+        valid = f .valid;
+        agrees = subst (λ b. Agree (view t) (view b)) (k .reference) (f .agrees);
+        states-le = omega (arith, f .asked-for .states, k .n-fewer, k .states-le);
+        same-propositions = f .same-propositions ∙ ap (λ b. b .propositions) (k .reference);
+        n-le = omega (arith, k .n-le);
+        n-fewer = omega (arith, f .asked-for .states);
+        m-from = k .m-from;
+        m-le = k .m-le;
+        brought-by = λ e. omega (arith, f .asked-for .states);
+        n-some = λ e. omega (arith, eqb-false (s .n - 1) 0 e);
+        not-open = λ e. k .not-open u;
+      }
+
+  -- where m rises, n stays
+  pub risen-n : s .brought ≡ true → below (s .best .states) ≡ s .n
+  risen-n b = omega (arith, k .brought-by b, k .n-le)
+
+  kept-risen : s .brought ≡ true → s .m < 4 → Kept a (risen s)
+  kept-risen b h =
+      let e : below (s .best .states) ≡ s .n = risen-n b in
+      record {
+        reference = k .reference;
+        valid = k .valid;
+        agrees = k .agrees;
+        states-le = k .states-le;
+        same-propositions = k .same-propositions;
+        n-le = omega arith;
+        n-fewer = omega (arith, k .n-fewer);
+        m-from = omega (arith, k .m-from);
+        m-le = omega arith;
+        brought-by = λ f. absurd (true≢false (sym f));
+        n-some = λ f. omega (arith, k .n-some u);
+        not-open = λ f. k .not-open u;
+      }
+
+  kept-ended : (marked : Bool) → Kept a (ended marked s)
+  kept-ended marked = record {
+    reference = k .reference;
+    valid = k .valid;
+    agrees = k .agrees;
+    states-le = k .states-le;
+    same-propositions = k .same-propositions;
+    n-le = k .n-le;
+    n-fewer = k .n-fewer;
+    m-from = k .m-from;
+    m-le = k .m-le;
+    brought-by = k .brought-by;
+    n-some = λ f. absurd (true≢false f);
+    not-open = λ f. absurd (true≢false f);
+  }
+
+  -- "none", by its two cases
+  pub none-cases : (P : Search → Type 0) → (s .brought ≡ true → s .m < 4 → P (risen s)) → ((s .brought && ltb (s .m) 4) ≡ false → P (ended (s .open) s)) → P (none s)
+  none-cases P f g = go (s .brought && ltb (s .m) 4) refl
+    where
+      go : (b : Bool) → (s .brought && ltb (s .m) 4) ≡ b → P (cond b (risen s) (ended (s .open) s))
+      go true e = f (and-left (s .brought) (ltb (s .m) 4) e) (ltb-true _ _ (and-right (s .brought) (ltb (s .m) 4) e))
+      go false e = g e
+
+  pub kept-moves : {v : Verdict} {t : Search} → Moves s v t → Kept a t
+  kept-moves (by-table f) = kept-found f
+  kept-moves by-none = none-cases (Kept a) kept-risen (λ e. kept-ended (s .open))
+  kept-moves by-unknown = kept-ended true
+
+-- ---- how much is left
+
+-- so many verdicts can still be taken
+abbrev pub remaining : Bool → ℕ → ℕ → ℕ
+remaining true n m = 0
+remaining false n m = n + (4 - m)
+
+abbrev pub left : Search → ℕ
+left s = remaining (s .finished) (s .n) (s .m)
+
+pub remaining-le : (b : Bool) (n m : ℕ) → remaining b n m ≤ n + (4 - m)
+remaining-le true n m = omega arith
+remaining-le false n m = omega arith
+
+module _ {a : Automaton} {s : Search} (k : Kept a s) (u : s .finished ≡ false) where
+  -- each verdict that is taken brings the end nearer
+  fewer : (b : Bool) (n m : ℕ) → n + (4 - m) < s .n + (4 - s .m) → remaining b n m < left s
+  fewer b n m h = rw u (omega (arith, remaining-le b n m))
+
+  over : 0 < left s
+  over = rw u (omega (arith, k .n-some u))
+
+  pub left-falls : {v : Verdict} {t : Search} → Moves s v t → left t < left s
+  left-falls (by-table f) = fewer (eqb (s .n - 1) 0) (s .n - 1) (s .m) (omega (arith, k .n-some u))
+  left-falls by-none =
+      none-cases k u (λ t. left t < left s)
+      (λ b h. fewer (eqb (below (s .best .states)) 0) (below (s .best .states)) (s .m + 1) (omega (arith, risen-n k u b)))
+      (λ e. over)
+  left-falls by-unknown = over

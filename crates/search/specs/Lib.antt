@@ -1,0 +1,7 @@
+pub mod Rule
+pub mod Replies
+pub mod Judged
+pub mod Calls
+pub mod Moves
+pub mod Kept
+pub mod Searches

@@ -1,0 +1,106 @@
+-- DEFINITIONS: what the search answers to each call, on all input: the reply, and what it leaves in the two lent buffers.
+use mathlib.Core.Path.{_≡_}
+use mathlib.Core.Logic.{_≢_}
+use mathlib.Core.Bool.{true, false}
+use mathlib.Core.List.{List}
+use Prim.Native.Nat.{ℕ, _≤_, _<_}
+use lib.ListN.{length}
+use Rattle.meaning.specs.Agreement.{Agree}
+use Rattle.automaton.specs.declared.Automaton.{Automaton}
+use Rattle.automaton.specs.declared.refusal.Refusal.{Refusal}
+use Rattle.automaton.specs.declared.refusal.Refusal.the-variants.{Outside, Dimensions, Differ, Short, Propositions}
+use Rattle.automaton.specs.Value.{Valid, empty}
+use Rattle.automaton.specs.View.{view}
+use Rattle.compare.specs.declared.Comparison.{Comparison}
+use Rattle.compare.specs.Compared.{Shown}
+use Rattle.search.specs.declared.Search.{Search}
+use Rattle.search.specs.declared.Answer.{Answer}
+use Rattle.search.specs.declared.Answer.the-variants.{Taken, Finished, Refused}
+use Rattle.search.specs.declared.Reply.{Reply}
+use Rattle.search.specs.Rule.{fresh, found}
+
+-- the ranges of the fields: "a carried state with a field out of its range" gets 4
+pub record InRange (s : Search) : Type 0 where
+  pub reference : Valid (s .reference)
+  pub best : Valid (s .best)
+  pub n-le : s .n ≤ 8
+  pub m-le : s .m ≤ 4
+
+abbrev pub replied : Answer → Search → Reply
+replied answer s = record { answer = answer; search = s }
+
+-- "a refused one changes nothing"
+abbrev pub refused : Refusal → Search → Reply
+refused f s = replied (Refused f) s
+
+-- ---- the start
+
+-- what goes with a reference outside "The automaton": no question, nothing found
+abbrev pub nothing : Search
+nothing = record {
+  reference = empty;
+  best = empty;
+  n = 0;
+  m = 0;
+  brought = false;
+  finished = true;
+  «open» = false;
+}
+
+-- it is taken also where it is finished at the start: that stands in the state
+pub data Started (a : Automaton) (r : Reply) : Type 0 where
+  outside : ¬ Valid a → r ≡ refused Outside nothing → Started a r
+  taken : Valid a → r ≡ replied Taken (fresh a) → Started a r
+
+-- ---- "none" and "unknown"
+
+-- "A finished search, after 13 and 4, says so and no longer changes"; otherwise the rule gives the next state
+pub data Told (s next : Search) (r : Reply) : Type 0 where
+  outside : ¬ InRange s → r ≡ refused Outside s → Told s next r
+  finished : InRange s → s .finished ≡ true → r ≡ replied Finished s → Told s next r
+  taken : InRange s → s .finished ≡ false → r ≡ replied Taken next → Told s next r
+
+-- ---- a found table
+
+-- "Buffers: prefix 256 and loop 1,280"
+pub record Room (prefix loop : List ℕ) : Type 0 where
+  pub prefix-room : 256 ≤ length prefix
+  pub loop-room : 1280 ≤ length loop
+
+-- the table, told to a search that is not finished
+pub record Admitted (s : Search) (table : Automaton) : Type 0 where
+  pub in-range : InRange s
+  pub valid : Valid table
+  pub unfinished : s .finished ≡ false
+
+-- "A found table must have n states and m sets"
+pub record AskedFor (s : Search) (table : Automaton) : Type 0 where
+  pub states : table .states ≡ s .n
+  pub sets : table .sets ≡ s .m
+
+-- what becomes of a found table: the reply, and the buffers before and after
+module _ (s : Search) (table : Automaton) (prefix prefix-after loop loop-after : List ℕ) (r : Reply) where
+  -- a reply that leaves both buffers as they were
+  abbrev pub Untouched : Reply → Type 0
+  Untouched x = (r ≡ x) × (prefix-after ≡ prefix) × (loop-after ≡ loop)
+
+  -- 12, with the comparison's word in the buffers
+  pub record Differs : Type 0 where
+    pub comparison : Comparison
+    pub shown : Shown table (s .reference) prefix prefix-after loop loop-after comparison
+    pub says : r ≡ refused (Differ (length (shown .x)) (length (shown .y))) s
+
+  -- "Order: 13 (prefix before loop), 4 for handed values", then "finished", 8 "with its own two counts", and the comparison again: 14, 12. Each row's
+  -- conditions shut out the other rows, so that one reply is due on each input.
+  pub data Found : Type 0 where
+    short-prefix : length prefix < 256 → Untouched (refused (Short 256 (length prefix)) s) → Found
+    short-loop : 256 ≤ length prefix → length loop < 1280 → Untouched (refused (Short 1280 (length loop)) s) → Found
+    outside : Room prefix loop → ¬ (InRange s × Valid table) → Untouched (refused Outside s) → Found
+    finished : Room prefix loop → InRange s → Valid table → s .finished ≡ true → Untouched (replied Finished s) → Found
+    dimensions : Room prefix loop → Admitted s table → ¬ AskedFor s table → Untouched (refused (Dimensions (table .states) (table .sets)) s) → Found
+    letters : Room prefix loop → Admitted s table → AskedFor s table → table .propositions ≢ s .reference .propositions
+        → Untouched (refused (Propositions (table .propositions) (s .reference .propositions)) s) → Found
+    differ : Room prefix loop → Admitted s table → AskedFor s table → table .propositions ≡ s .reference .propositions
+        → ¬ Agree (view table) (view (s .reference)) → Differs → Found
+    taken : Room prefix loop → Admitted s table → AskedFor s table → table .propositions ≡ s .reference .propositions
+        → Agree (view table) (view (s .reference)) → Untouched (replied Taken (found table s)) → Found
