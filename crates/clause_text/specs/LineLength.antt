@@ -59,7 +59,7 @@ abs-negated (suc k) = refl
 literal-variable : (num : Var → ℕ) (x : ℤ) (y : Var) → IsLiteral num x y → natAbs x ≡ num y
 literal-variable num x y = ⊎-elim (λ e. ap natAbs e) (λ e. ap natAbs e ∙ abs-negated (num y))
 
-variables-le : (R : Aut) (n m : ℕ) → n ≤ 8 → m ≤ 4 → R .states ≤ 16 → R .letters ≤ 16 → R .sets ≤ 4 → base-variables R n m ≤ 4_199_424
+pub variables-le : (R : Aut) (n m : ℕ) → n ≤ 8 → m ≤ 4 → R .states ≤ 16 → R .letters ≤ 16 → R .sets ≤ 4 → base-variables R n m ≤ 4_199_424
 variables-le R n m hn hm hr hL hs =
     let M : 2 ^ m ≤ 16 = pow-mono {j = 4} hm in
     let S : 2 ^ R .sets ≤ 16 = pow-mono {j = 4} hs in

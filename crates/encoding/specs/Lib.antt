@@ -18,4 +18,3 @@ pub mod Paths
 pub mod Complete
 pub mod Theorem
 pub mod Base
-pub mod Examples

@@ -1,4 +1,4 @@
--- EXAMPLES, by computation: texts of document 01's decks, and the readings of its doubtful places, R1 to R13.
+-- EXAMPLES, by computation: two automata of document 01's decks as texts, and the readings of its doubtful places, R1 to R13.
 use mathlib.Core.Path.{_≡_, refl, ap}
 use mathlib.Core.Bool.{cond}
 use mathlib.Core.List.{List, [], _∷_, _++_}
@@ -6,8 +6,7 @@ use Prim.Native.Nat.{ℕ, _<_}
 use borrow.Author.Tests.{lt-leb}
 use lib.ListN.{length, replicate}
 use Rattle.automaton.specs.declared.Automaton.{Automaton}
-use Rattle.automaton.specs.declared.refusal.Refusal.the-variants.{Form, Size, Item, Undeclared, Body, SecondEdge, NoEdge}
-use Rattle.automaton.specs.Refused.{row, codeOf}
+use Rattle.automaton.specs.declared.refusal.Refusal.the-variants.{Form, Size, Item, Undeclared, Body, SecondEdge}
 use Rattle.hoa_text.specs.Basics.{bytes}
 use Rattle.hoa_text.specs.Tokens.{tokens}
 use Rattle.hoa_text.specs.Grammar.{gives, refuses}
@@ -17,8 +16,9 @@ use Rattle.hoa_text.specs.Body.{bodyRead}
 use Rattle.hoa_text.specs.Reading.{reading, read}
 use Rattle.hoa_text.specs.Written.{labelOf, marksOf, text}
 
--- ---- the decks
+-- ---- two automata
 
+-- the first deck's automaton
 abbrev pub one-state : Automaton
 one-state = record {
   states = 1;
@@ -31,32 +31,12 @@ one-state = record {
   marks = replicate 256 0;
 }
 
-pub first-deck : read (bytes "HOA: v1 States: 1 Start: 0 Acceptance: 1 Inf(0) --BODY-- State: 0 [t] 0 --END--") ≡ gives one-state
-unfolding read itemRead bodyRead deepest
-first-deck = refl
-
-first-deck-written : text one-state ≡ bytes "HOA: v1\nStates: 1\nStart: 0\nAcceptance: 1 Inf(0)\n--BODY--\nState: 0\n[t] 0\n--END--\n"
+one-state-written : text one-state ≡ bytes "HOA: v1\nStates: 1\nStart: 0\nAcceptance: 1 Inf(0)\n--BODY--\nState: 0\n[t] 0\n--END--\n"
 unfolding text
-first-deck-written = refl
-
--- "k = 1, only `[0]`: 7,0,0"
-pub no-edge : read (bytes "HOA: v1 States: 1 Start: 0 AP: 1 \"a\" Acceptance: 0 t --BODY-- State: 0 [0] 0 --END--") ≡ refuses (NoEdge 0 0)
-unfolding read itemRead bodyRead deepest
-no-edge = refl
-
-no-edge-code : codeOf (NoEdge 0 0) ≡ row 7 0 0
-no-edge-code = refl
-
--- "`[0]` then `[t]`: 6,0,1"
-pub second-edge : read (bytes "HOA: v1 States: 1 Start: 0 AP: 1 \"a\" Acceptance: 0 t --BODY-- State: 0 [0] 0 [t] 0 --END--") ≡ refuses (SecondEdge 0 1)
-unfolding read itemRead bodyRead deepest
-second-edge = refl
-
-second-edge-code : codeOf (SecondEdge 0 1) ≡ row 6 0 1
-second-edge-code = refl
+one-state-written = refl
 
 -- "a and b both for ever"
-both-for-ever : Automaton
+abbrev pub both-for-ever : Automaton
 both-for-ever = record {
   states = 1;
   start = 0;
@@ -76,13 +56,13 @@ both-body : List ℕ
 both-body = bytes "tool: \"x\" 1 --BODY--\nState: 0 \"x \\\" y\" [!0&!1]0{}[0&(!1|f)] 0 {0 0}\n[!(0|!1)] 0{1} [0&1&t]0 {1 0}--END--\n"
 
 both-read : read (both-head ++ both-body) ≡ gives both-for-ever
-unfolding read itemRead bodyRead deepest both-for-ever both-head both-body
+unfolding read itemRead bodyRead deepest both-head both-body
 both-read = refl
 
 both-written : text both-for-ever
     ≡ bytes "HOA: v1\nStates: 1\nStart: 0\nAP: 2 \"a\" \"b\"\nAcceptance: 2 Inf(0)&Inf(1)\n"
     ++ bytes "--BODY--\nState: 0\n[!0&!1] 0\n[0&!1] 0 {0}\n[!0&1] 0 {1}\n[0&1] 0 {0 1}\n--END--\n"
-unfolding text both-for-ever
+unfolding text
 both-written = refl
 
 -- "`[!0&1]`", "`{0 2}`"

@@ -7,6 +7,7 @@ pub mod Cases
 pub mod Literals
 pub mod Counts
 pub mod Range
+pub mod Ended
 pub mod Spelling
 pub mod Table
 pub mod Agreement

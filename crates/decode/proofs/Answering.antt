@@ -1,0 +1,109 @@
+-- The decoder's answer, by what the reader says at the end of the text and by its verdict.
+use mathlib.Core.Path.{_≡_, refl, sym, ap, _∙_, subst}
+use mathlib.Core.List.{List}
+use Prim.Native.Nat.{ℕ, _≤_, _<_}
+use native.Mathlib.Omega.{arith}
+use lib.ListN.{length}
+use Rattle.automaton.specs.declared.Automaton.{Automaton}
+use Rattle.automaton.specs.declared.refusal.Refusal.{Refusal}
+use Rattle.automaton.specs.declared.refusal.Refusal.the-variants.{Outside, Dimensions, SolverForm, Short}
+use Rattle.automaton.specs.Value.{Valid}
+use Rattle.variables.specs.Sizes.{Dimensioned}
+use Rattle.solution.specs.declared.Reader.{Reader}
+use Rattle.solution.specs.declared.Reply.{Reply}
+use denote.Enum.Declared.{tagOf, declared}
+use Rattle.solution.proofs.Answer.{enum}
+use Rattle.solution.specs.declared.Answer.{Answer}
+use Rattle.solution.specs.declared.Answer.the-variants.{Accepted, Refused as TurnedDown}
+use Rattle.solution.specs.declared.scan.Verdict.{Verdict}
+use Rattle.solution.specs.declared.scan.Verdict.the-variants.{Unstated, Satisfiable, Unsatisfiable, Unknown as NotKnown}
+use Rattle.solution.specs.Calls.{Called}
+use Rattle.decode.specs.declared.Answer.the-variants.{None, Unknown, Refused}
+use Rattle.decode.specs.declared.Decoded.{Decoded}
+use Rattle.decode.specs.Answers.{whole, said, without, Untouched, ByAssignment, ByVerdict, Decodes}
+
+pub accepted-tag : (x : Answer) → tagOf (declared enum) x ≡ 0 → x ≡ Accepted
+accepted-tag Accepted e = refl
+accepted-tag (TurnedDown x) e = absurd (omega arith)
+
+-- ---- the verdict
+
+module _ (p p′ l l′ : List ℕ) (x : Decoded) (a : Automaton) (n m : ℕ) (r : Reader) where
+  -- what is said for a verdict
+  abbrev pub Answered : Verdict → Type 0
+  Answered Unstated = Untouched p p′ l l′ x (without (Refused (SolverForm (r .scan .at))))
+  Answered Satisfiable = ByAssignment p p′ l l′ x a n m (said r)
+  Answered Unsatisfiable = Untouched p p′ l l′ x (without None)
+  Answered NotKnown = Untouched p p′ l l′ x (without Unknown)
+
+pub answered : {p p′ l l′ : List ℕ} {x : Decoded} {a : Automaton} {n m : ℕ} {r : Reader} (v : Verdict) → r .scan .verdict ≡ v
+    → Answered p p′ l l′ x a n m r v → ByVerdict p p′ l l′ x a n m r
+answered {p} {p′} {l} {l′} {x} {a} {n} {m} {r} v e t =
+    let A : Verdict → Type 0 = Answered p p′ l l′ x a n m r in
+    record {
+      unstated = λ f. subst A (sym e ∙ f) t;
+      none = λ f. subst A (sym e ∙ f) t;
+      unknown = λ f. subst A (sym e ∙ f) t;
+      satisfiable = λ f. subst A (sym e ∙ f) t;
+    }
+
+-- ---- the call
+
+clash : {P : Type 0} (f : Refusal) → Accepted ≡ TurnedDown f → P
+clash f e = let z : _≡_ {A = ℕ} 0 1 = cc in absurd (omega arith)
+
+module _ (a : Automaton) (n m : ℕ) (r : Reader) (p l : List ℕ) where
+  pub prefix-short : {x : Decoded} → length p < 256 → x ≡ without (Refused (Short 256 (length p))) → Decodes p p l l x a n m r
+  prefix-short h e = record {
+    short-prefix = λ g. (e, refl, refl);
+    short-loop = λ g. absurd (omega arith);
+    automaton = λ g. absurd (omega arith);
+    state = λ g. absurd (omega arith);
+    dimensions = λ g. absurd (omega arith);
+    text = λ d. absurd (omega (arith, d .prefix-room));
+    accepted = λ d. absurd (omega (arith, d .prefix-room));
+  }
+
+  module _ (hp : 256 ≤ length p) where
+    pub loop-short : {x : Decoded} → length l < 1280 → x ≡ without (Refused (Short 1280 (length l))) → Decodes p p l l x a n m r
+    loop-short h e = record {
+      short-prefix = λ g. absurd (omega arith);
+      short-loop = λ _ g. (e, refl, refl);
+      automaton = λ _ g. absurd (omega arith);
+      state = λ _ g. absurd (omega arith);
+      dimensions = λ _ g. absurd (omega arith);
+      text = λ d. absurd (omega (arith, d .loop-room));
+      accepted = λ d. absurd (omega (arith, d .loop-room));
+    }
+
+    module _ (hl : 1280 ≤ length l) {y : Reply} (c : Called a n m r (whole a n m r) y) where
+      -- the reader turns something down
+      pub refused-answer : {x : Decoded} (f : Refusal) → y .answer ≡ TurnedDown f → x ≡ without (Refused f) → Decodes p p l l x a n m r
+      refused-answer {x} f h e = record {
+        short-prefix = λ g. absurd (omega arith);
+        short-loop = λ _ g. absurd (omega arith);
+        automaton = λ _ _ k. (same Outside (c .automaton k), refl, refl);
+        state = λ _ _ k. (same Outside (c .state k), refl, refl);
+        dimensions = λ _ _ v s k. (same (Dimensions n m) (c .sizes v s k), refl, refl);
+        text = λ d g k. (turned g (sym h ∙ ap (λ z. z .answer) (c .text (d .valid) (d .in-range) (d .sizes)) ∙ k), refl, refl);
+        accepted = λ d k. clash f (sym k ∙ sym (ap (λ z. z .answer) (c .text (d .valid) (d .in-range) (d .sizes))) ∙ h);
+      }
+        where
+          turned : (g : Refusal) → TurnedDown f ≡ TurnedDown g → x ≡ without (Refused g)
+          turned g k = let d : f ≡ g = cc in e ∙ ap (λ z. without (Refused z)) d
+
+          same : (g : Refusal) → y ≡ record { answer = TurnedDown g; reader = r } → x ≡ without (Refused g)
+          same g k = turned g (sym h ∙ ap (λ z. z .answer) k)
+
+      -- or not
+      pub accepted-answer : {p′ l′ : List ℕ} {x : Decoded} → y .answer ≡ Accepted → (Valid a → Dimensioned n m → ByVerdict p p′ l l′ x a n m (y .reader))
+          → Decodes p p′ l l′ x a n m r
+      accepted-answer {p′} {l′} {x} h t = record {
+        short-prefix = λ g. absurd (omega arith);
+        short-loop = λ _ g. absurd (omega arith);
+        automaton = λ _ _ k. clash Outside (sym h ∙ ap (λ z. z .answer) (c .automaton k));
+        state = λ _ _ k. clash Outside (sym h ∙ ap (λ z. z .answer) (c .state k));
+        dimensions = λ _ _ v s k. clash (Dimensions n m) (sym h ∙ ap (λ z. z .answer) (c .sizes v s k));
+        text = λ d g k. clash g (sym h ∙ ap (λ z. z .answer) (c .text (d .valid) (d .in-range) (d .sizes)) ∙ k);
+        accepted = λ d k. subst (λ z. ByVerdict p p′ l l′ x a n m (z .reader)) (c .text (d .valid) (d .in-range) (d .sizes)) (t (d .valid) (d .sizes));
+      }

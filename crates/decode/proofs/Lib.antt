@@ -1,0 +1,5 @@
+pub mod Laws
+pub mod Filling
+pub mod Comparing
+pub mod Tabling
+pub mod Answering

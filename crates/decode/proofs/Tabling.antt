@@ -1,0 +1,170 @@
+-- The decoder's answer to an assignment, by the table that was filled.
+use mathlib.Core.Path.{_≡_, refl, sym, ap, ap₂, _∙_, subst}
+use mathlib.Core.Logic.{_⊎_, inl, inr}
+use mathlib.Core.List.{List}
+use Prim.Native.Nat.{ℕ, _+_, _*_, _/_, _%_, _≤_, _<_}
+use native.Mathlib.Decide.{decLt}
+use native.Mathlib.Omega.{arith}
+use lib.Arith.{digits-div, digits-mod}
+use lib.Dec.{eqb}
+use lib.ListN.{getD}
+use lib.Pow.{pow-mono}
+use Rattle.automaton.specs.declared.Automaton.{Automaton}
+use Rattle.automaton.specs.declared.refusal.Refusal.{Refusal}
+use Rattle.automaton.specs.declared.refusal.Refusal.the-variants.{NoStep}
+use Rattle.automaton.specs.Value.{Valid, letters}
+use Rattle.encoding.specs.Clauses.{Assignment, destination, marks-of}
+use Rattle.variables.specs.declared.sizes.Sizes.{Sizes}
+use Rattle.variables.specs.declared.sizes.Sized.{Sized}
+use Rattle.variables.specs.declared.sizes.Sized.the-variants.{Of, Refused as NoFile}
+use Rattle.variables.specs.Sizes.{Dimensioned, Refuses, outside, dimensions, Sizing, Fitting, sizesOf}
+use Rattle.variables.specs.Limits.{sizes-fit}
+use Rattle.decode.specs.declared.Answer.the-variants.{Refused}
+use Rattle.decode.specs.declared.Decoded.{Decoded}
+use Rattle.decode.specs.Table.{decodedTable, decodedValue, Steps, AllStep, LowestWithout}
+use Rattle.decode.specs.Answers.{without, ByComparison, ByAssignment}
+use Rattle.decode.specs.Entries.{rows-same}
+use Rattle.decode.specs.Value.{steps-lead, lead-steps, decoded-valid}
+use Rattle.decode.specs.Cells.{tableBy, Filled, FilledTo}
+use Rattle.decode.specs.Ready.{Measured, Comparable, candidate}
+
+by-sizes : (a : Automaton) (n m : ℕ) (named : List ℕ) → tableBy (sizesOf a n m) named ≡ decodedTable a n m (λ v. eqb (getD named v 0) 1)
+unfolding destination
+by-sizes a n m named = refl
+
+module _ {a : Automaton} {z : Sizes} (M : Measured a z) where
+  pub fitting : Fitting z
+  fitting = subst Fitting (sym (M .sizes)) (sizes-fit (M .valid) (M .dimensioned))
+
+  table-is : (named : List ℕ) → tableBy z named ≡ decodedTable a (z .candidate .states) (z .candidate .sets) (λ v. eqb (getD named v 0) 1)
+  table-is named = ap (λ x. tableBy x named) (M .sizes) ∙ by-sizes a (z .candidate .states) (z .candidate .sets) named
+
+few-letters : {a : Automaton} → Valid a → letters a ≤ 16
+few-letters v = pow-mono {j = 4} (v .propositions-le)
+
+-- what was filled, for the file of a, n and m
+module _ (a : Automaton) (n m : ℕ) (v : Valid a) (ν : Assignment) {d s : List ℕ} {k : ℕ} where
+  -- a state and a letter before k have a true step
+  steps-before : Filled (decodedTable a n m ν) d s k → (q l : ℕ) → q < n → l < letters a → q * 16 + l < k → Steps a n m ν q l
+  steps-before F q l hq hl h =
+      let hl₁₆ : l < 16 = omega (arith, few-letters v) in
+      let eq : (q * 16 + l) / 16 ≡ q = digits-div q hl₁₆ in
+      let el : (q * 16 + l) % 16 ≡ l = digits-mod q hl₁₆ in
+      lead-steps a n m ν q l (subst (λ p. p < n) (ap₂ (decodedTable a n m ν .step) eq el) (F .leads (q * 16 + l) h (omega (arith, eq), omega (arith, el))))
+
+  -- all of them
+  module _ (F : Filled (decodedTable a n m ν) d s k) (all : 256 ≤ k) (few : n ≤ 16) where
+    all-step : AllStep a n m ν
+    all-step q l hq hl = steps-before F q l hq hl (omega (arith, few-letters v))
+
+    no-lowest : (q l : ℕ) → LowestWithout a n m ν q l → ⊥
+    no-lowest q l w = w .no-step (all-step q l (w .state-lt) (w .letter-lt))
+
+    destinations-filled : d ≡ decodedValue a n m ν .destinations
+    destinations-filled = rows-same (decodedTable a n m ν) (decodedTable a n m ν .step) d (F .destinations-size) (λ i h. F .destinations-at i (omega arith))
+
+    marks-filled : s ≡ decodedValue a n m ν .marks
+    marks-filled = rows-same (decodedTable a n m ν) (marks-of (decodedTable a n m ν)) s (F .marks-size) (λ i h. F .marks-at i (omega arith))
+
+  -- up to one that has none
+  module _ (F : FilledTo (decodedTable a n m ν) d s k) (h : k < 256) where
+    none-here : ¬ Steps a n m ν (k / 16) (k % 16)
+    none-here t = F .stopped h .1 (steps-lead a n m ν (k / 16) (k % 16) t)
+
+    not-all : ¬ AllStep a n m ν
+    not-all t = let u = F .stopped h .0 in none-here (t (k / 16) (k % 16) (u .0) (u .1))
+
+    -- which is the lowest
+    lowest-here : (q l : ℕ) → LowestWithout a n m ν q l → (k / 16 ≡ q) × (k % 16 ≡ l)
+    lowest-here q l w =
+        let hl : l < 16 = omega (arith, few-letters v, w .letter-lt) in
+        let from : k ≤ q * 16 + l = least (decLt (q * 16 + l) k) in
+        let to : q * 16 + l ≤ k = most hl (decLt k (q * 16 + l)) in
+        (omega arith, omega arith)
+      where
+        least : Dec (q * 16 + l < k) → k ≤ q * 16 + l
+        least (yes g) = absurd (w .no-step (steps-before (F .filled) q l (w .state-lt) (w .letter-lt) g))
+        least (no g) = omega arith
+
+        earlier : l < 16 → k < q * 16 + l → Dec (k / 16 < q) → (k / 16 < q) ⊎ ((k / 16 ≡ q) × (k % 16 < l))
+        earlier hl g (yes e) = inl e
+        earlier hl g (no e) = inr (omega arith, omega arith)
+
+        most : l < 16 → Dec (k < q * 16 + l) → q * 16 + l ≤ k
+        most hl (no g) = omega arith
+        most hl (yes g) = absurd (none-here (w .before (k / 16) (k % 16) (F .stopped h .0 .1) (earlier hl g (decLt (k / 16) q))))
+
+-- ---- the answer
+
+module _ {a : Automaton} {z : Sizes} (M : Measured a z) (named : List ℕ) where
+  abbrev n : ℕ
+  n = z .candidate .states
+
+  abbrev m : ℕ
+  m = z .candidate .sets
+
+  abbrev ν : Assignment
+  ν v = eqb (getD named v 0) 1
+
+  few : n ≤ 16
+  few = omega (arith, M .dimensioned .n-le)
+
+  module _ {d s : List ℕ} {k : ℕ} (F : FilledTo (tableBy z named) d s k) where
+    filled : FilledTo (decodedTable a n m ν) d s k
+    filled = subst (λ C. FilledTo C d s k) (table-is M named) F
+
+    pub stopped-answer : {p l : List ℕ} {x : Decoded} → k < 256 → x ≡ without (Refused (NoStep (k / 16) (k % 16))) → ByAssignment p p l l x a n m ν
+    stopped-answer h e = record {
+      no-step = λ q l w.
+          let (eq, el) = lowest-here a n m (M .valid) ν filled h q l w in
+          (e ∙ ap₂ (λ (i j : ℕ). without (Refused (NoStep i j))) eq el, refl, refl);
+      table = λ t. absurd (not-all a n m (M .valid) ν filled h t);
+    }
+
+    module _ (all : 256 ≤ k) where
+      value-is : candidate a z d s ≡ decodedValue a n m ν
+      value-is =
+          let ed = destinations-filled a n m (M .valid) ν (filled .filled) all few in
+          let es = marks-filled a n m (M .valid) ν (filled .filled) all few in
+          λ i. record {
+            states = n;
+            start = 0;
+            propositions = a .propositions;
+            sets = m;
+            lengths = a .lengths;
+            names = a .names;
+            destinations = ed i;
+            marks = es i;
+          }
+
+      pub comparable : {C : Automaton} → C ≡ candidate a z d s → Comparable C a
+      comparable e = subst (λ C. Comparable C a) (sym (e ∙ value-is)) (record {
+        valid-a = decoded-valid (M .valid) (M .dimensioned) ν (all-step a n m (M .valid) ν (filled .filled) all few);
+        valid-b = M .valid;
+        same-propositions = refl;
+      })
+
+      pub table-answer : {C : Automaton} {p p′ l l′ : List ℕ} {x : Decoded} → C ≡ candidate a z d s → ByComparison p p′ l l′ x a C → ByAssignment p p′ l l′ x a n m ν
+      table-answer {p} {p′} {l} {l′} {x} e b = record {
+        no-step = λ q i w. absurd (no-lowest a n m (M .valid) ν (filled .filled) all few q i w);
+        table = λ t. subst (λ C. ByComparison p p′ l l′ x a C) (e ∙ value-is) b;
+      }
+
+-- ---- the sizes of the file
+
+pub sizing-of : {a : Automaton} {n m : ℕ} {y : Sized} {z : Sizes} → Sizing a n m y → y ≡ Of z → Valid a × Dimensioned n m × (z ≡ sizesOf a n m)
+sizing-of {a} {n} {m} s e = subst (Sizing a n m) e s
+
+pub sizing-not : {a : Automaton} {n m : ℕ} {y : Sized} {f : Refusal} → Sizing a n m y → y ≡ NoFile f → Valid a → Dimensioned n m → ⊥
+sizing-not {a} {n} {m} s e v d = go (subst (Sizing a n m) e s)
+  where
+    go : {f : Refusal} → Refuses a n m f → ⊥
+    go (outside h) = h v
+    go (dimensions w h) = h d
+
+pub measured-of : {a : Automaton} {n m : ℕ} {z : Sizes} → Valid a × Dimensioned n m × (z ≡ sizesOf a n m) → Measured a z
+measured-of {a} (v, d, e) = subst (Measured a) (sym e) (record { valid = v; dimensioned = d; sizes = refl })
+
+pub assigned-answer : {a : Automaton} {n m : ℕ} {z : Sizes} {p p′ l l′ : List ℕ} {x : Decoded} (ν : Assignment) → z ≡ sizesOf a n m
+    → ByAssignment p p′ l l′ x a (z .candidate .states) (z .candidate .sets) ν → ByAssignment p p′ l l′ x a n m ν
+assigned-answer {a} {p} {p′} {l} {l′} {x} ν e b = subst (λ z. ByAssignment p p′ l l′ x a (z .candidate .states) (z .candidate .sets) ν) e b

@@ -1,0 +1,97 @@
+-- DEFINITION: what the decoder answers, and what it leaves in the two lent buffers.
+use mathlib.Core.Path.{_≡_}
+use mathlib.Core.List.{List}
+use Prim.Native.Nat.{ℕ, _≤_, _<_}
+use lib.Dec.{eqb}
+use lib.ListN.{length, getD}
+use Rattle.meaning.specs.Agreement.{Agree}
+use Rattle.automaton.specs.declared.Automaton.{Automaton}
+use Rattle.automaton.specs.declared.refusal.Refusal.{Refusal}
+use Rattle.automaton.specs.declared.refusal.Refusal.the-variants.{Outside, Dimensions, SolverForm, NoStep, Differ, Short}
+use Rattle.automaton.specs.Value.{Valid, empty}
+use Rattle.automaton.specs.View.{view}
+use Rattle.encoding.specs.Clauses.{Assignment}
+use Rattle.compare.specs.declared.Comparison.the-variants.{Refused as Objects}
+use Rattle.compare.specs.Compared.{Shown}
+use Rattle.variables.specs.Sizes.{Dimensioned}
+use Rattle.solution.specs.declared.Reader.{Reader}
+use Rattle.solution.specs.declared.Reply.{Reply}
+use Rattle.solution.specs.declared.Answer.the-variants.{Accepted, Refused as TurnedDown}
+use Rattle.solution.specs.declared.scan.Verdict.the-variants.{Unstated, Satisfiable, Unsatisfiable, Unknown as NotKnown}
+use Rattle.solution.specs.Machine.{told, end}
+use Rattle.solution.specs.Calls.{InRange, last, kept}
+use Rattle.decode.specs.declared.Answer.{Answer}
+use Rattle.decode.specs.declared.Answer.the-variants.{Table, None, Unknown, Refused}
+use Rattle.decode.specs.declared.Decoded.{Decoded}
+use Rattle.decode.specs.Table.{decodedValue, AllStep, LowestWithout}
+
+-- ---- what the reader holds
+
+-- the reply at the end of the text
+abbrev pub whole : Automaton → ℕ → ℕ → Reader → Reply
+whole a n m r = told (end (last a n m) (kept a n m) r)
+
+-- "An unnamed variable is false": a variable is true where it is named without a minus, which a reader keeps as 1
+abbrev pub said : Reader → Assignment
+said r v = eqb (getD (r .named) v 0) 1
+
+-- ---- the answers: with a table, or without
+
+abbrev pub found : Automaton → Decoded
+found C = record { answer = Table; table = C }
+
+abbrev pub without : Answer → Decoded
+without x = record { answer = x; table = empty }
+
+-- The two buffers before and after, and the answer. The records follow document 01's order from the end: the comparison, what an assignment
+-- brings, what a verdict brings, and all of the call.
+module _ (prefix prefix-after loop loop-after : List ℕ) (x : Decoded) where
+  -- an answer that leaves both buffers as they were
+  abbrev pub Untouched : Decoded → Type 0
+  Untouched y = (x ≡ y) × (prefix-after ≡ prefix) × (loop-after ≡ loop)
+
+  -- 12, with a word as the comparison shows it
+  pub record Differs (a C : Automaton) : Type 0 where
+    pub prefix-length : ℕ
+    pub loop-length : ℕ
+    pub says : x ≡ without (Refused (Differ prefix-length loop-length))
+    pub shown : Shown C a prefix prefix-after loop loop-after (Objects (Differ prefix-length loop-length))
+
+  -- "The table is then compared with the reference." It has the reference's propositions, so 14 cannot come.
+  pub record ByComparison (a C : Automaton) : Type 0 where
+    pub same : Agree (view C) (view a) → Untouched (found C)
+    pub differ : ¬ Agree (view C) (view a) → Differs a C
+
+  -- 11, and else the comparison
+  pub record ByAssignment (a : Automaton) (n m : ℕ) (ν : Assignment) : Type 0 where
+    pub no-step : (q l : ℕ) → LowestWithout a n m ν q l → Untouched (without (Refused (NoStep q l)))
+    pub table : AllStep a n m ν → ByComparison a (decodedValue a n m ν)
+
+  -- r is what a reader holds at the end of a text that is not turned down. Of a reader that read a text, the verdict is stated; for any
+  -- other, "no `s` line" at the end is 9.
+  pub record ByVerdict (a : Automaton) (n m : ℕ) (r : Reader) : Type 0 where
+    pub unstated : r .scan .verdict ≡ Unstated → Untouched (without (Refused (SolverForm (r .scan .at))))
+    pub none : r .scan .verdict ≡ Unsatisfiable → Untouched (without None)
+    pub unknown : r .scan .verdict ≡ NotKnown → Untouched (without Unknown)
+    pub satisfiable : r .scan .verdict ≡ Satisfiable → ByAssignment a n m (said r)
+
+  module _ (a : Automaton) (n m : ℕ) (r : Reader) where
+    -- nothing speaks against the buffers, the reference, the reader's state, n and m
+    pub record Admitted : Type 0 where
+      pub prefix-room : 256 ≤ length prefix
+      pub loop-room : 1280 ≤ length loop
+      pub valid : Valid a
+      pub in-range : InRange r
+      pub sizes : Dimensioned n m
+
+    -- "Order: 13 (prefix before loop), 4 for handed values, 8, then reading left to right, then 11, 14, 12." Buffers: "prefix 256 and loop
+    -- 1,280". The text that the reader r has read ends here.
+    pub record Decodes : Type 0 where
+      pub short-prefix : length prefix < 256 → Untouched (without (Refused (Short 256 (length prefix))))
+      pub short-loop : 256 ≤ length prefix → length loop < 1280 → Untouched (without (Refused (Short 1280 (length loop))))
+      pub automaton : 256 ≤ length prefix → 1280 ≤ length loop → ¬ Valid a → Untouched (without (Refused Outside))
+      pub state : 256 ≤ length prefix → 1280 ≤ length loop → ¬ InRange r → Untouched (without (Refused Outside))
+      pub dimensions : 256 ≤ length prefix → 1280 ≤ length loop → Valid a → InRange r → ¬ Dimensioned n m → Untouched (without (Refused (Dimensions n m)))
+      -- 9 and 10
+      pub text : Admitted → (f : Refusal) → whole a n m r .answer ≡ TurnedDown f → Untouched (without (Refused f))
+      pub accepted : Admitted → whole a n m r .answer ≡ Accepted → ByVerdict a n m (whole a n m r .reader)

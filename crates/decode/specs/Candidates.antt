@@ -1,0 +1,99 @@
+-- WHAT IS DECODED AND THE CANDIDATES: an assignment that satisfies the file decodes to a candidate that agrees with the reference, and every
+-- such candidate is decoded from one, as a value.
+use mathlib.Core.Path.{_≡_, refl, sym, ap, _∙_}
+use mathlib.Core.Logic.{_↔_}
+use Prim.Native.Nat.{ℕ, _^_, _<_}
+use Rattle.meaning.specs.Tests.{all}
+use Rattle.meaning.specs.Agreement.{Agree}
+use Rattle.automaton.specs.declared.Automaton.{Automaton}
+use Rattle.automaton.specs.Value.{Valid, name}
+use Rattle.automaton.specs.View.{view, view-formed}
+use Rattle.automaton.specs.Equality.{Same, equal-values}
+use Rattle.encoding.specs.Variables.{base, base-number}
+use Rattle.encoding.specs.Clauses.{Assignment, Satisfies, base-file, Equivalent, SameTable}
+use Rattle.encoding.specs.Constraints.{constraints}
+use Rattle.encoding.specs.Base.{base-numbering, base-well-posed, base-encodes}
+use Rattle.variables.specs.Sizes.{Dimensioned}
+use Rattle.decode.specs.Table.{decodedTable, decodedValue, AllStep}
+use Rattle.decode.specs.Value.{decoded-valid, decoded-view}
+use Rattle.decode.specs.SameTables.{same-agree}
+
+-- a value with n states, m sets, start 0, and the propositions and names of the reference
+pub record Candidate (a : Automaton) (n m : ℕ) (C : Automaton) : Type 0 where
+  pub valid : Valid C
+  pub states : C .states ≡ n
+  pub sets : C .sets ≡ m
+  pub start : C .start ≡ 0
+  pub propositions : C .propositions ≡ a .propositions
+  pub names : (i : ℕ) → i < a .propositions → name C i ≡ name a i
+
+-- one that agrees with the reference on every lasso word
+pub record Found (a : Automaton) (n m : ℕ) (C : Automaton) : Type 0 where
+  pub candidate : Candidate a n m C
+  pub agrees : Agree (view C) (view a)
+
+module _ {a : Automaton} {n m : ℕ} (v : Valid a) (z : Dimensioned n m) where
+  pub decoded-candidate : (ν : Assignment) → AllStep a n m ν → Candidate a n m (decodedValue a n m ν)
+  decoded-candidate ν t = record {
+    valid = decoded-valid v z ν t;
+    states = refl;
+    sets = refl;
+    start = refl;
+    propositions = refl;
+    names = λ i h. refl;
+  }
+
+  -- SOUND
+
+  pub satisfying-steps : (ν : Assignment) → Satisfies ν (base-file (view a) n m) → AllStep a n m ν
+  satisfying-steps ν s =
+      constraints (base (view a) n m) (base-number (view a) n m) (base-numbering (view a) n m .from-1) ν (base-well-posed (view a) n m (view-formed v) (z .n-some)) .0 s .total
+
+  pub satisfying-found : (ν : Assignment) → Satisfies ν (base-file (view a) n m) → Found a n m (decodedValue a n m ν)
+  satisfying-found ν s =
+      let t = satisfying-steps ν s in
+      let E = base-encodes (view a) n m (view-formed v) (z .n-some) .sound ν s .0 in
+      record {
+        candidate = decoded-candidate ν t;
+        agrees = same-agree (view a) (decoded-view v z ν t) (view-formed (decoded-valid v z ν t)) (E .candidate .formed) (E .agrees);
+      }
+
+  -- COMPLETE
+
+  equivalent : {C : Automaton} → Found a n m C → Equivalent (base (view a) n m) (view C)
+  equivalent {C} f =
+      let c = f .candidate in
+      record {
+        candidate = record {
+          formed = view-formed (c .valid);
+          states = c .states;
+          letters = ap (λ k. 2 ^ k) (c .propositions);
+          sets = c .sets;
+          start = c .start;
+          accept = λ S. ap (λ k. all k S) (c .sets);
+        };
+        agrees = f .agrees;
+      }
+
+  same-value : {C : Automaton} → Candidate a n m C → (ν : Assignment) → AllStep a n m ν → SameTable (decodedTable a n m ν) (view C) → decodedValue a n m ν ≡ C
+  same-value {C} c ν t s =
+      let d = decoded-view v z ν t in
+      let same : Same (decodedValue a n m ν) C = record {
+        states = sym (c .states);
+        start = sym (c .start);
+        propositions = sym (c .propositions);
+        sets = sym (c .sets);
+        steps = λ q l hq hl. d .step q l hq hl ∙ s .step q l hq hl;
+        marks = λ q l i hq hl hi. d .marks q l i hq hl hi ∙ s .marks q l i hq hl hi;
+        names = λ i h. sym (c .names i h);
+      } in
+      equal-values (decoded-valid v z ν t) (c .valid) same
+
+  pub found-decoded : (C : Automaton) → Found a n m C → (ν : Assignment) × Satisfies ν (base-file (view a) n m) × (decodedValue a n m ν ≡ C)
+  found-decoded C f =
+      let (ν, s, same) = base-encodes (view a) n m (view-formed v) (z .n-some) .complete (view C) (equivalent f) tt in
+      (ν, s, same-value (f .candidate) ν (satisfying-steps ν s) same)
+
+  -- so the file can be satisfied if and only if there is such a candidate
+  pub satisfiable : ((ν : Assignment) × Satisfies ν (base-file (view a) n m)) ↔ ((C : Automaton) × Found a n m C)
+  satisfiable = (λ (ν, s). (decodedValue a n m ν, satisfying-found ν s), λ (C, f). (let (ν, s, e) = found-decoded C f in (ν, s)))

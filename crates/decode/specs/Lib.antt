@@ -1,0 +1,12 @@
+pub mod Table
+pub mod Answers
+pub mod Entries
+pub mod Kept
+pub mod Value
+pub mod Missing
+pub mod SameTables
+pub mod Candidates
+pub mod Texts
+pub mod Verdicts
+pub mod Cells
+pub mod Ready

@@ -1,0 +1,64 @@
+-- DEFINITION: the table that an assignment decodes to, as a value. Document 01, "Solver text" and row 11 of "What is turned down", whose
+-- words stand in quotes.
+use mathlib.Core.Path.{_≡_}
+use mathlib.Core.Logic.{_⊎_}
+use mathlib.Core.Bool.{true, _&&_, cond}
+use mathlib.Core.List.{List, [], _∷_}
+use Prim.Native.Nat.{ℕ, _<_}
+use lib.Dec.{ltb}
+use Rattle.meaning.specs.Automata.{Aut}
+use Rattle.automaton.specs.declared.Automaton.{Automaton}
+use Rattle.automaton.specs.Value.{letters}
+use Rattle.automaton.specs.View.{view}
+use Rattle.encoding.specs.Variables.{step, base, base-number}
+use Rattle.encoding.specs.Clauses.{Assignment, each, marks-of, decoded}
+
+-- ---- an automaton of `meaning` as a value
+
+-- what f says of a state and a letter of C; 0 where there is no such state or letter
+abbrev pub entry : Aut → (ℕ → ℕ → ℕ) → ℕ → ℕ → ℕ
+entry C f q l = cond (ltb q (C .states) && ltb l (C .letters)) (f q l) 0
+
+-- the entries of a value's table: 16 for each of 16 states
+abbrev pub rows : Aut → (ℕ → ℕ → ℕ) → List ℕ
+rows C f = each 16 λ q. each 16 λ l. entry C f q l ∷ []
+
+-- with the propositions of the reference: "proposition names are the reference's"
+abbrev pub valueOf : Automaton → Aut → Automaton
+valueOf a C = record {
+  states = C .states;
+  start = C .start;
+  propositions = a .propositions;
+  sets = C .sets;
+  lengths = a .lengths;
+  names = a .names;
+  destinations = rows C (C .step);
+  marks = rows C (marks-of C);
+}
+
+-- ---- what is decoded
+
+-- "Decoding takes for each state and letter the lowest p whose step is true, with its marks." The definition of `encoding`, with the numbers
+-- of the file for the reference, n and m.
+abbrev pub decodedTable : Automaton → ℕ → ℕ → Assignment → Aut
+decodedTable a n m ν = decoded (base (view a) n m) (base-number (view a) n m) ν
+
+abbrev pub decodedValue : Automaton → ℕ → ℕ → Assignment → Automaton
+decodedValue a n m ν = valueOf a (decodedTable a n m ν)
+
+-- ---- "no true step, lowest"
+
+module _ (a : Automaton) (n m : ℕ) (ν : Assignment) where
+  -- q has a true step by l
+  abbrev pub Steps : ℕ → ℕ → Type 0
+  Steps q l = (p : ℕ) × (p < n) × (ν (base-number (view a) n m (step q l p)) ≡ true)
+
+  abbrev pub AllStep : Type 0
+  AllStep = (q l : ℕ) → q < n → l < letters a → Steps q l
+
+  -- q and l are the lowest that have none: q is the lowest such state, and l its lowest such letter
+  pub record LowestWithout (q l : ℕ) : Type 0 where
+    pub state-lt : q < n
+    pub letter-lt : l < letters a
+    pub no-step : ¬ Steps q l
+    pub before : (p j : ℕ) → j < letters a → (p < q) ⊎ ((p ≡ q) × (j < l)) → Steps p j

@@ -1,0 +1,185 @@
+-- DEFINITIONS: what each public function asks of a call, in document 01's "Order: 13 (prefix before loop), 4 for handed values, 8, then reading left to
+-- right, then 11, 14, 12", and what its answers return: a refusal's number and two values, or none.
+use mathlib.Core.Path.{_≡_}
+use mathlib.Core.Logic.{_≢_}
+use mathlib.Core.List.{List, [], _∷_, _++_}
+use mathlib.Core.Option.{Option, none, some}
+use Prim.Native.Nat.{ℕ, _≤_}
+use lib.ListN.{length, drop}
+use Rattle.meaning.specs.Agreement.{Agree}
+use Rattle.automaton.specs.declared.Automaton.{Automaton}
+use Rattle.automaton.specs.declared.refusal.Code.{Code}
+use Rattle.automaton.specs.Refused.{row, codeOf}
+use Rattle.automaton.specs.Value.{Valid}
+use Rattle.automaton.specs.View.{view}
+use Rattle.encoding.specs.Clauses.{Assignment}
+use Rattle.compare.specs.declared.Comparison.{Comparison}
+use Rattle.compare.specs.declared.Comparison.the-variants as comparison
+use Rattle.hoa_text.specs.Grammar as hoa
+use Rattle.hoa_text.specs.Grammar.{Result}
+use Rattle.hoa_text.specs.Reading.{reading}
+use Rattle.hoa_text.specs.Tokens.{tokens}
+use Rattle.hoa_write.specs.declared.Written.{Written}
+use Rattle.hoa_write.specs.declared.Written.the-variants as writer
+use Rattle.variables.specs.Sizes.{Dimensioned}
+use Rattle.clauses.specs.declared.Answer.{Answer}
+use Rattle.clauses.specs.declared.Answer.the-variants as step
+use Rattle.clauses.specs.declared.header.Totals.{Totals}
+use Rattle.clauses.specs.declared.header.Totals.the-variants as header
+use Rattle.clauses.specs.Step.{last-position}
+use Rattle.solution.specs.declared.Reader.{Reader}
+use Rattle.solution.specs.declared.Reply.{Reply}
+use Rattle.solution.specs.declared.Answer as solution
+use Rattle.solution.specs.declared.Answer.the-variants as answer
+use Rattle.solution.specs.declared.scan.Verdict.{Verdict}
+use Rattle.solution.specs.declared.scan.Verdict.the-variants.{Unstated, Satisfiable, Unsatisfiable, Unknown}
+use Rattle.solution.specs.SolverText.{Outcome, gives, refused}
+use Rattle.solution.specs.Calls.{InRange}
+use Rattle.decode.specs.declared.Answer as decoder
+use Rattle.decode.specs.declared.Answer.the-variants as decoding
+use Rattle.decode.specs.declared.Decoded.{Decoded}
+use Rattle.decode.specs.Answers.{whole, said, found, without}
+use Rattle.decode.specs.Table.{decodedValue, AllStep, LowestWithout}
+use Rattle.demands.specs.Judgement.{Condition, asks, TurnedDown, Accepted, Judged}
+
+-- ---- the reader of HOA text
+
+-- a text must have no fault: `fault` is what it is refused with, or none
+abbrev pub fault-code : Option Code → Code
+fault-code none = row 0 0 0
+fault-code (some c) = c
+
+abbrev pub no-fault : Option Code → Condition
+no-fault fault = record { met = fault ≡ none; otherwise = fault-code fault }
+
+abbrev pub hoa-said : Result Automaton → Option Code
+hoa-said (hoa.gives a) = none
+hoa-said (hoa.refuses f) = some (codeOf f)
+
+-- 2: "text over 65,536 bytes (offset 65,536, before reading)"; then left to right, as `hoa_text` defines it: 1 to 4, 5 for a body twice, 6; and after the
+-- whole text 5 and 7
+abbrev pub to-read : (text : List ℕ) → List Condition
+to-read text = asks (length text ≤ 65536) 2 65536 0 ∷ no-fault (hoa-said (reading (tokens text))) ∷ []
+
+-- ---- the HOA writer: "HOA output 8,192"
+
+abbrev pub to-write : (a : Automaton) (given : ℕ) → List Condition
+to-write a given = asks (8192 ≤ given) 13 8192 given ∷ asks (Valid a) 4 0 0 ∷ []
+
+abbrev pub writer-said : Written → Option Code
+writer-said (writer.Text k) = none
+writer-said (writer.Refused f) = some (codeOf f)
+
+-- ---- the comparison: "prefix 256 and loop 1,280"; p and l are the lengths of 12's word
+
+abbrev pub to-compare : (a b : Automaton) (prefix loop p l : ℕ) → List Condition
+to-compare a b prefix loop p l =
+    asks (256 ≤ prefix) 13 256 prefix
+    ∷ asks (1280 ≤ loop) 13 1280 loop
+    ∷ asks (Valid a × Valid b) 4 0 0
+    ∷ asks (a .propositions ≡ b .propositions) 14 (a .propositions) (b .propositions)
+    ∷ asks (Agree (view a) (view b)) 12 p l
+    ∷ []
+
+abbrev pub comparison-said : Comparison → Option Code
+comparison-said comparison.Same = none
+comparison-said (comparison.Refused f) = some (codeOf f)
+
+-- "On 12 only the stated lengths are written": the buffer begins with w, and behind it is as it was
+abbrev pub Begins : (w buffer after : List ℕ) → Type 0
+Begins w buffer after = after ≡ w ++ drop (length w) buffer
+
+-- A comparison is judged by its conditions. x and y are 12's word, and empty on every other answer, so that both buffers are then as they were.
+pub record JudgesComparison (a b : Automaton) (prefix prefix-after loop loop-after : List ℕ) (answer : Comparison) : Type 0 where
+  pub x : List ℕ
+  pub y : List ℕ
+  pub judged : Judged (to-compare a b (length prefix) (length loop) (length x) (length y)) (comparison-said answer) (Begins x prefix prefix-after × Begins y loop loop-after)
+  pub empty : (c : Code) → comparison-said answer ≡ some c → c .number ≢ 12 → (x ≡ []) × (y ≡ [])
+  pub same : answer ≡ comparison.Same → (prefix-after ≡ prefix) × (loop-after ≡ loop)
+
+-- ---- the header, the clause step ("one clause 8 literals"), the clause line ("one clause line 80 bytes") and the batch of lines
+
+abbrev pub to-count : (a : Automaton) (n m : ℕ) → List Condition
+to-count a n m = asks (Valid a) 4 0 0 ∷ asks (Dimensioned n m) 8 n m ∷ []
+
+abbrev pub header-said : Totals → Option Code
+header-said (header.Of last count) = none
+header-said (header.Refused f) = some (codeOf f)
+
+abbrev pub to-hand-out : (needed given : ℕ) (a : Automaton) (n m position : ℕ) → List Condition
+to-hand-out needed given a n m position =
+    asks (needed ≤ given) 13 needed given ∷ asks (Valid a × (position ≤ last-position)) 4 0 0 ∷ asks (Dimensioned n m) 8 n m ∷ []
+
+abbrev pub step-said : Answer → Option Code
+step-said (step.Written k) = none
+step-said step.Ended = none
+step-said (step.Refused f) = some (codeOf f)
+
+-- ---- the reader of solver text: what it asks before it reads
+
+abbrev pub to-begin : (a : Automaton) (n m : ℕ) (r : Reader) → List Condition
+to-begin a n m r = asks (Valid a × InRange r) 4 0 0 ∷ asks (Dimensioned n m) 8 n m ∷ []
+
+abbrev pub solution-said : solution.Answer → Option Code
+solution-said answer.Accepted = none
+solution-said (answer.Refused f) = some (codeOf f)
+
+-- what the definition of solver text gives
+abbrev pub outcome-said : Outcome → Option Code
+outcome-said (gives s) = none
+outcome-said (refused f) = some (codeOf f)
+
+-- A call with the state r is judged before it reads, and then by 9 and 10, as reading gives them. 4 and 8 leave the state as it was; else it is what was read.
+pub record JudgesReading (a : Automaton) (n m : ℕ) (r : Reader) (read reply : Reply) : Type 0 where
+  pub judged : Judged (to-begin a n m r ++ (no-fault (solution-said (read .answer)) ∷ [])) (solution-said (reply .answer)) (Unit {0})
+  pub kept : (c : Code) → TurnedDown (to-begin a n m r) c → reply .reader ≡ r
+  pub moved : Accepted (to-begin a n m r) → reply .reader ≡ read .reader
+
+-- ---- the decoder: the buffers, the reader's conditions, 9 and 10 of the text that it holds, and then what the text states. There is no 14: the table has the
+-- reference's propositions.
+
+abbrev pub decoder-said : decoder.Answer → Option Code
+decoder-said decoding.Table = none
+decoder-said decoding.None = none
+decoder-said decoding.Unknown = none
+decoder-said (decoding.Refused f) = some (codeOf f)
+
+module _ (a : Automaton) (n m : ℕ) (r : Reader) where
+  -- the verdict of the text, and the assignment that it states
+  abbrev pub verdict-of : Verdict
+  verdict-of = whole a n m r .reader .scan .verdict
+
+  abbrev pub stated-by : Assignment
+  stated-by = said (whole a n m r .reader)
+
+  -- state and letter are those of 11, p and l the lengths of 12's word. "No `s` line" is 9 also where no text leaves a reader so.
+  abbrev pub to-decode : (prefix loop state letter p l : ℕ) → List Condition
+  to-decode prefix loop state letter p l =
+      asks (256 ≤ prefix) 13 256 prefix
+      ∷ asks (1280 ≤ loop) 13 1280 loop
+      ∷ to-begin a n m r
+      ++ (no-fault (solution-said (whole a n m r .answer))
+      ∷ asks (verdict-of ≢ Unstated) 9 (whole a n m r .reader .scan .at) 0
+      ∷ asks (verdict-of ≡ Satisfiable → AllStep a n m stated-by) 11 state letter
+      ∷ asks (verdict-of ≡ Satisfiable → Agree (view (decodedValue a n m stated-by)) (view a)) 12 p l
+      ∷ [])
+
+-- the answer x to a text that is accepted, by its verdict, where C is the table that is decoded
+abbrev pub Answers : Verdict → (C : Automaton) (x : Decoded) → Type 0
+Answers Unstated C x = ⊥
+Answers Satisfiable C x = x ≡ found C
+Answers Unsatisfiable C x = x ≡ without decoding.None
+Answers Unknown C x = x ≡ without decoding.Unknown
+
+-- The decoder is judged by its conditions. State and letter are 11's, "no true step, lowest"; x and y are 12's word, and empty on every other answer.
+pub record JudgesDecoding (a : Automaton) (n m : ℕ) (r : Reader) (prefix prefix-after loop loop-after : List ℕ) (answer : Decoded) : Type 0 where
+  pub state : ℕ
+  pub letter : ℕ
+  pub x : List ℕ
+  pub y : List ℕ
+  pub judged : Judged (to-decode a n m r (length prefix) (length loop) state letter (length x) (length y)) (decoder-said (answer .answer))
+      (Begins x prefix prefix-after × Begins y loop loop-after)
+  pub lowest : ¬ AllStep a n m (stated-by a n m r) → LowestWithout a n m (stated-by a n m r) state letter
+  pub empty : (c : Code) → decoder-said (answer .answer) ≡ some c → c .number ≢ 12 → (x ≡ []) × (y ≡ [])
+  pub accepted : decoder-said (answer .answer) ≡ none
+      → Answers (verdict-of a n m r) (decodedValue a n m (stated-by a n m r)) answer × (prefix-after ≡ prefix) × (loop-after ≡ loop)

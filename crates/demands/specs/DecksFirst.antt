@@ -1,0 +1,65 @@
+-- The first deck: what is printed for it, and that no assignment satisfies its file.
+use mathlib.Core.Path.{_≡_, refl, ap₂, _∙_}
+use mathlib.Core.Bool.{xor}
+use mathlib.Core.List.{List, [], _∷_, _++_, List·Memᴰ·head, List·Memᴰ·tail}
+use Prim.Native.Nat.{ℕ}
+use native.Mathlib.Omega.{arith}
+use lib.IntN.{negsuc}
+use lib.ListN.{length}
+use Rattle.automaton.specs.declared.Automaton.{Automaton}
+use Rattle.automaton.specs.Value.{Valid}
+use Rattle.automaton.specs.View.{view}
+use Rattle.encoding.specs.Variables.{base-variables}
+use Rattle.encoding.specs.Clauses.{each, only, set-of, not-marks, totality, initial, successor, extension, closure, exactly-one, group₁, group₂, group₃, group₄, file, base-file}
+use Rattle.encoding.specs.Satisfaction.{no-literal, one-literal, premise}
+use Rattle.decimal.specs.Decimal.{decimal}
+use Rattle.variables.specs.Sizes.{Dimensioned, outside, dimensions}
+use Rattle.clauses.specs.declared.header.Totals.{Totals}
+use Rattle.clauses.specs.declared.header.Totals.the-variants.{Of, Refused}
+use Rattle.clauses.specs.Header.{Headed}
+use Rattle.clause_text.specs.Text.{linesText}
+use Rattle.clause_text.specs.LinesOut.{lines-out}
+use Rattle.hoa_text.specs.Basics.{bytes}
+use Rattle.hoa_text.specs.Grammar.{gives}
+use Rattle.hoa_text.specs.Labels.{deepest}
+use Rattle.hoa_text.specs.Header.{itemRead}
+use Rattle.hoa_text.specs.Body.{bodyRead}
+use Rattle.hoa_text.specs.Reading.{read}
+use Rattle.hoa_text.specs.Accepted.{accepted-valid}
+use Rattle.hoa_text.specs.Examples.{one-state}
+use Rattle.demands.specs.DecksWords.{Satisfiable, headerLine, headerText, Prints}
+
+-- ---- what the calls write is the text of the file
+module _ {a : Automaton} {n m : ℕ} (v : Valid a) (d : Dimensioned n m) where
+  abbrev counted : List ℕ
+  counted = headerLine (base-variables (view a) n m) (length (base-file (view a) n m))
+
+  totals-text : (t : Totals) → Headed a n m t → headerText t ≡ counted
+  totals-text (Of variables clauses) (w, e, (p, q)) = ap₂ headerLine p q
+  totals-text (Refused f) (outside w) = absurd (w v)
+  totals-text (Refused f) (dimensions w e) = absurd (e d)
+
+  prints : {text : List ℕ} → counted ++ linesText (base-file (view a) n m) ≡ text → Prints a n m text
+  prints e = record {
+    file = e;
+    calls = λ t h cs k c i g. ap₂ _++_ (totals-text t h) (lines-out v d cs k .whole c i g) ∙ e;
+  }
+
+-- ---- the deck
+
+pub first-read : read (bytes "HOA: v1 States: 1 Start: 0 Acceptance: 1 Inf(0) --BODY-- State: 0 [t] 0 --END--") ≡ gives one-state
+unfolding read itemRead bodyRead deepest
+first-read = refl
+
+pub first-prints : Prints one-state 1 0 (bytes "p cnf 3 6\n1 0\n2 0\n-2 -1 2 0\n-2 -1 2 0\n-3 -1 3 0\n-2 -1 0\n")
+unfolding each only set-of not-marks totality initial successor extension closure exactly-one group₁ group₂ group₃ group₄ file xor decimal
+first-prints = prints (accepted-valid _ first-read) (record { n-some = omega arith; n-le = omega arith; m-le = omega arith }) refl
+
+-- the clauses `1`, `2` and `-2 -1` cannot hold together
+pub first-none : ¬ Satisfiable one-state 1 0
+unfolding each only set-of not-marks totality initial successor extension closure exactly-one group₁ group₂ group₃ group₄ file xor
+first-none (ν, s) =
+    let one = one-literal ν 1 .0 (s _ (List·Memᴰ·head refl)) in
+    let two = one-literal ν 2 .0 (s _ (List·Memᴰ·tail (List·Memᴰ·head refl))) in
+    let last = s (negsuc 1 ∷ negsuc 0 ∷ []) (List·Memᴰ·tail (List·Memᴰ·tail (List·Memᴰ·tail (List·Memᴰ·tail (List·Memᴰ·tail (List·Memᴰ·head refl)))))) in
+    premise ν {k = 2} (omega arith) (premise ν {k = 1} (omega arith) (no-literal ν)) .0 last two one

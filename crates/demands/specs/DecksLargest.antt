@@ -1,0 +1,36 @@
+-- The largest sizes: the bound of V for every file, and that it is met.
+use mathlib.Core.Path.{_≡_, refl}
+use mathlib.Core.List.{_∷_, _++_}
+use Prim.Native.Nat.{ℕ, _≤_}
+use lib.ListN.{replicate}
+use lib.Pow.{pow-mono}
+use Rattle.automaton.specs.declared.Automaton.{Automaton}
+use Rattle.automaton.specs.Tests.{fits, passes}
+use Rattle.automaton.specs.Value.{Valid}
+use Rattle.automaton.specs.View.{view}
+use Rattle.automaton.proofs.Meant.{fits-valid}
+use Rattle.encoding.specs.Variables.{base-variables}
+use Rattle.variables.specs.Sizes.{Dimensioned}
+use Rattle.clause_text.specs.LineLength.{variables-le}
+
+pub at-most : {a : Automaton} {n m : ℕ} → Valid a → Dimensioned n m → base-variables (view a) n m ≤ 4_199_424
+at-most {a} {n} {m} v d = variables-le (view a) n m (d .n-le) (d .m-le) (v .states-le) (pow-mono {j = 4} (v .propositions-le)) (v .sets-le)
+
+pub met : (a : Automaton) → a .states ≡ 16 → a .propositions ≡ 4 → a .sets ≡ 4 → base-variables (view a) 8 4 ≡ 4_199_424
+met a r k s = rw (r, k, s)
+
+abbrev pub largest : Automaton
+largest = record {
+  states = 16;
+  start = 0;
+  propositions = 4;
+  sets = 4;
+  lengths = replicate 4 1;
+  names = (97 ∷ replicate 15 0) ++ ((98 ∷ replicate 15 0) ++ ((99 ∷ replicate 15 0) ++ (100 ∷ replicate 15 0)));
+  destinations = replicate 256 0;
+  marks = replicate 256 0;
+}
+
+pub largest-valid : Valid largest
+unfolding fits passes
+largest-valid = fits-valid largest refl refl refl refl refl

@@ -1,0 +1,65 @@
+-- What a reader and the decoder make of a solver text, in whatever pieces it came: what the text gives by its definition.
+use mathlib.Core.Path.{_≡_, refl, sym, subst, _∙_}
+use mathlib.Core.List.{List}
+use Prim.Native.Nat.{ℕ, _≤_}
+use lib.Dec.{eqb}
+use lib.ListN.{length, getD}
+use Rattle.automaton.specs.declared.Automaton.{Automaton}
+use Rattle.automaton.specs.declared.refusal.Refusal.{Refusal}
+use Rattle.automaton.specs.Refused.{codeOf}
+use Rattle.automaton.specs.Value.{Valid}
+use Rattle.variables.specs.Sizes.{Dimensioned}
+use Rattle.solution.specs.declared.Reader.{Reader}
+use Rattle.solution.specs.declared.Reply.{Reply}
+use Rattle.solution.specs.declared.scan.Verdict.the-variants.{Satisfiable}
+use Rattle.solution.specs.SolverText.{Seen, gives, refused, outcome}
+use Rattle.solution.specs.Assignment.{asserted, States}
+use Rattle.solution.specs.Machine.{fresh}
+use Rattle.solution.specs.Calls.{InRange, Ends, last, kept}
+use Rattle.solution.specs.Range.{run-kept}
+use Rattle.solution.specs.Table.{table}
+use Rattle.solution.specs.Pieces.{joined, pieces, fresh-range, Tells, whole-text}
+use Rattle.decode.specs.declared.Decoded.{Decoded}
+use Rattle.decode.specs.Answers.{whole, Decodes, Admitted, ByAssignment}
+use Rattle.demands.specs.DecksWords.{HasRead, SolverTextRefused}
+
+module _ {a : Automaton} {n m : ℕ} (v : Valid a) (z : Dimensioned n m) {text : List ℕ} {q : Reader} (h : HasRead a n m text q) where
+  in-range : InRange q
+  in-range =
+      subst InRange (sym (pieces v z fresh-range (h .reads))) (run-kept (last a n m) (kept a n m) fresh (joined (h .pieces)) fresh-range)
+
+  -- the reply at the end tells what the whole text gives
+  tells : {e : Reply} → Ends a n m q e → Tells (kept a n m) (outcome (last a n m) (kept a n m) text) e
+  tells {e} k = subst (λ t. Tells (kept a n m) (outcome (last a n m) (kept a n m) t) e) (h .whole) (whole-text v z (h .reads) k)
+
+  -- and so does what the decoder takes for it
+  whole-tells : Tells (kept a n m) (outcome (last a n m) (kept a n m) text) (whole a n m q)
+  whole-tells = tells (record { automaton = λ u. absurd (u v); state = λ u. absurd (u in-range); sizes = λ w r u. absurd (u z); text = λ w r u. refl })
+
+  module _ {prefix prefix-after loop loop-after : List ℕ} (hp : 256 ≤ length prefix) (hl : 1280 ≤ length loop) {x : Decoded}
+      (d : Decodes prefix prefix-after loop loop-after x a n m q) where
+    admitted : Admitted prefix prefix-after loop loop-after x a n m q
+    admitted = record { prefix-room = hp; loop-room = hl; valid = v; in-range = in-range; sizes = z }
+
+    pub by-assignment : {s : Seen} → outcome (last a n m) (kept a n m) text ≡ gives s → s .verdict ≡ Satisfiable
+        → ByAssignment prefix prefix-after loop loop-after x a n m (λ k. eqb (getD (table (kept a n m) (s .literals)) k 0) 1)
+    by-assignment {s} e k =
+        let t = whole-tells in
+        subst (λ t. ByAssignment prefix prefix-after loop loop-after x a n m (λ k. eqb (getD t k 0) 1)) (t .named s e)
+        (d .accepted admitted (t .accepted s e) .satisfiable (t .verdict s e ∙ k))
+
+-- a text with a fault
+pub text-refused : {a : Automaton} {n m : ℕ} → Valid a → Dimensioned n m → {text : List ℕ} {f : Refusal} → outcome (last a n m) (kept a n m) text ≡ refused f
+    → SolverTextRefused a n m text (codeOf f)
+text-refused v z {f} e = record {
+  refusal = f;
+  code = refl;
+  of-text = e;
+  reply = λ q h r k. tells v z h k .refusal f e;
+  decoder = λ q h prefix prefix-after loop loop-after hp hl x d. d .text (admitted v z h hp hl d) f (whole-tells v z h .refusal f e);
+}
+
+-- the assignment that a text states
+pub stating : {last kept : ℕ} {text : List ℕ} {s : Seen} → outcome last kept text ≡ gives s → s .verdict ≡ Satisfiable
+    → States last kept text (λ k. asserted k (s .literals))
+stating {s} e k = record { seen = s; accepted = e; verdict = k; named = λ i h g. refl }

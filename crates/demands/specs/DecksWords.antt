@@ -1,0 +1,102 @@
+-- DEFINITIONS: what the lines of the table of known decks say, by the definitions that the public contracts cite.
+use mathlib.Core.Path.{_≡_}
+use mathlib.Core.List.{List, [], _∷_, _++_, List·Memᴰ}
+use Prim.Native.Nat.{ℕ, _≤_}
+use lib.ListN.{length}
+use Rattle.automaton.specs.declared.Automaton.{Automaton}
+use Rattle.automaton.specs.declared.refusal.Code.{Code}
+use Rattle.automaton.specs.declared.refusal.Refusal.{Refusal}
+use Rattle.automaton.specs.Refused.{codeOf}
+use Rattle.automaton.specs.View.{view}
+use Rattle.encoding.specs.Variables.{base-variables}
+use Rattle.encoding.specs.Clauses.{base-file, Assignment, Satisfies}
+use Rattle.decimal.specs.Decimal.{decimal}
+use Rattle.hoa_text.specs.Basics.{bytes}
+use Rattle.hoa_text.specs.Grammar.{gives, refuses}
+use Rattle.hoa_text.specs.Reading.{read}
+use Rattle.clauses.specs.declared.Answer.the-variants.{Ended}
+use Rattle.clauses.specs.declared.header.Totals.{Totals}
+use Rattle.clauses.specs.declared.header.Totals.the-variants.{Of, Refused}
+use Rattle.clauses.specs.Header.{Headed}
+use Rattle.clause_text.specs.Text.{linesText}
+use Rattle.clause_text.specs.Batches.{BatchCall, BatchCalls, all-bytes}
+use Rattle.solution.specs.declared.Reader.{Reader}
+use Rattle.solution.specs.declared.Reply.{Reply}
+use Rattle.solution.specs.declared.Answer.the-variants as reader
+use Rattle.solution.specs.SolverText.{refused, outcome}
+use Rattle.solution.specs.Assignment.{States}
+use Rattle.solution.specs.Machine.{fresh}
+use Rattle.solution.specs.Calls.{Reads, Ends, last, kept}
+use Rattle.solution.specs.Pieces.{joined}
+use Rattle.decode.specs.declared.Decoded.{Decoded}
+use Rattle.decode.specs.declared.Answer.the-variants as decode
+use Rattle.decode.specs.Answers.{Decodes, Untouched, without}
+
+-- ---- HOA text
+
+-- the text is read, and P is said of the automaton
+abbrev pub ReadAs : List ℕ → (Automaton → Type 0) → Type 0
+ReadAs text P = (a : Automaton) × (read text ≡ gives a) × P a
+
+-- the text is turned down, with this number and these two values
+abbrev pub HoaTextRefused : List ℕ → Code → Type 0
+HoaTextRefused text c = (f : Refusal) × (codeOf f ≡ c) × (read text ≡ refuses f)
+
+-- ---- the clause file for the reference a, n and m
+
+-- "V variables, C clauses"
+pub record Counts (a : Automaton) (n m variables clauses : ℕ) : Type 0 where
+  pub last-variable : base-variables (view a) n m ≡ variables
+  pub count : length (base-file (view a) n m) ≡ clauses
+
+-- "some"
+abbrev pub Satisfiable : Automaton → (n m : ℕ) → Type 0
+Satisfiable a n m = (ν : Assignment) × Satisfies ν (base-file (view a) n m)
+
+-- "The header is `p cnf V C`"
+abbrev pub headerLine : ℕ → ℕ → List ℕ
+headerLine variables clauses = bytes "p cnf " ++ (decimal variables ++ (32 ∷ decimal clauses ++ (10 ∷ [])))
+
+-- by what the header answers
+abbrev pub headerText : Totals → List ℕ
+headerText (Of variables clauses) = headerLine variables clauses
+headerText (Refused f) = []
+
+-- "the clause program prints, header first"
+pub record Prints (a : Automaton) (n m : ℕ) (text : List ℕ) : Type 0 where
+  -- the text of the file
+  pub file : headerLine (base-variables (view a) n m) (length (base-file (view a) n m)) ++ linesText (base-file (view a) n m) ≡ text
+  -- so that of what the header answers, and then of all that calls for lines write until one says "ended"
+  pub calls : (t : Totals) → Headed a n m t → (cs : List BatchCall) → BatchCalls a n m 0 cs → (c : BatchCall) → List·Memᴰ c cs → c .result .answer ≡ Ended
+      → headerText t ++ all-bytes cs ≡ text
+
+-- ---- solver text
+
+-- the text states an assignment, and P is said of it
+abbrev pub Stating : (a : Automaton) (n m : ℕ) → List ℕ → (Assignment → Type 0) → Type 0
+Stating a n m text P = (ν : Assignment) × States (last a n m) (kept a n m) text ν × P ν
+
+-- "A fresh reader of solver text has read nothing; its own state goes likewise from piece to piece, empty ones too, to the end, and the
+-- decoder takes what it then holds": q is what it holds, in whatever pieces the text came
+pub record HasRead (a : Automaton) (n m : ℕ) (text : List ℕ) (q : Reader) : Type 0 where
+  pub pieces : List (List ℕ)
+  pub whole : joined pieces ≡ text
+  pub reads : Reads a n m fresh pieces q
+
+-- what the decoder answers, where no buffer is short; the buffers stay as they were
+abbrev pub DecodedAs : (a : Automaton) (n m : ℕ) → List ℕ → Decoded → Type 0
+DecodedAs a n m text y =
+    (q : Reader) → HasRead a n m text q → (prefix prefix-after loop loop-after : List ℕ) → 256 ≤ length prefix → 1280 ≤ length loop → (x : Decoded)
+    → Decodes prefix prefix-after loop loop-after x a n m q → Untouched prefix prefix-after loop loop-after x y
+
+-- it answers with this number and these two values
+abbrev pub DecoderRefuses : (a : Automaton) (n m : ℕ) → List ℕ → Code → Type 0
+DecoderRefuses a n m text c = (f : Refusal) × (codeOf f ≡ c) × DecodedAs a n m text (without (decode.Refused f))
+
+-- 9 and 10: the text itself is turned down, by its definition, by the reader at its end and by the decoder
+pub record SolverTextRefused (a : Automaton) (n m : ℕ) (text : List ℕ) (c : Code) : Type 0 where
+  pub refusal : Refusal
+  pub code : codeOf refusal ≡ c
+  pub of-text : outcome (last a n m) (kept a n m) text ≡ refused refusal
+  pub reply : (q : Reader) → HasRead a n m text q → (e : Reply) → Ends a n m q e → e .answer ≡ reader.Refused refusal
+  pub decoder : DecodedAs a n m text (without (decode.Refused refusal))

@@ -1,0 +1,223 @@
+-- The decoder is judged by its conditions.
+use mathlib.Core.Path.{_≡_, refl, sym, ap, _∙_, subst}
+use mathlib.Core.Logic.{_⊎_, inl, inr, Dec·and, Dec·not, Dec·not-not}
+use mathlib.Core.List.{List, []}
+use mathlib.Core.Option.{none, some, Option·some-inj}
+use Prim.Native.Nat.{ℕ, _≤_}
+use native.Mathlib.Decide.{decLe}
+use native.Mathlib.Omega.{arith}
+use lib.ListN.{length}
+use Rattle.automaton.specs.declared.Automaton.{Automaton}
+use Rattle.automaton.specs.declared.refusal.Code.{Code}
+use Rattle.automaton.specs.declared.refusal.Refusal.{Refusal}
+use Rattle.automaton.specs.declared.refusal.Refusal.the-variants.{Outside}
+use Rattle.automaton.specs.Refused.{codeOf}
+use Rattle.automaton.specs.Value.{Valid}
+use Rattle.encoding.specs.Clauses.{Assignment}
+use Rattle.variables.specs.Sizes.{Dimensioned}
+use Rattle.solution.specs.declared.Reader.{Reader}
+use Rattle.solution.specs.declared.Answer as solution
+use Rattle.solution.specs.declared.Answer.the-variants as reading
+use Rattle.solution.specs.declared.scan.Verdict.{Verdict}
+use Rattle.solution.specs.declared.scan.Verdict.the-variants.{Unstated, Satisfiable, Unsatisfiable, Unknown}
+use Rattle.solution.specs.Calls.{InRange}
+use Rattle.decode.specs.declared.Answer.the-variants.{Refused}
+use Rattle.decode.specs.declared.Decoded.{Decoded}
+use Rattle.decode.specs.Answers.{whole, without, Untouched, Admitted, ByVerdict, Decodes}
+use Rattle.decode.specs.Table.{decodedValue, AllStep, LowestWithout}
+use Rattle.decode.specs.Value.{decoded-valid}
+use Rattle.decode.specs.Missing.{all-or-lowest}
+use Rattle.demands.specs.Judgement.{TurnedDown, Accepted}
+use Rattle.demands.specs.Conditions.{comparison-said, fault-code, solution-said, decoder-said, verdict-of, stated-by, to-decode, Answers, JudgesDecoding}
+use Rattle.demands.specs.Decisions.{Decided, fault-decided, decision, some-none, judged-refused, judged-accepted, valid-decided, in-range-decided, dimensioned-decided, agree-decided}
+
+-- ---- verdicts
+
+unlike : {P : Type 0} → _≡_ {A = ℕ} 0 1 → P
+unlike e = absurd (omega arith)
+
+unstated-decided : (v : Verdict) → Dec (v ≡ Unstated)
+unstated-decided Unstated = yes refl
+unstated-decided Satisfiable = no (λ e. unlike (cc))
+unstated-decided Unsatisfiable = no (λ e. unlike (cc))
+unstated-decided Unknown = no (λ e. unlike (cc))
+
+satisfiable-decided : (v : Verdict) → Dec (v ≡ Satisfiable)
+satisfiable-decided Unstated = no (λ e. unlike (cc))
+satisfiable-decided Satisfiable = yes refl
+satisfiable-decided Unsatisfiable = no (λ e. unlike (cc))
+satisfiable-decided Unknown = no (λ e. unlike (cc))
+
+-- what is asked where the verdict is SATISFIABLE
+where-satisfiable : {v : Verdict} {P : Type 0} → Dec (v ≡ Satisfiable) → (v ≡ Satisfiable → Dec P) → Dec (v ≡ Satisfiable → P)
+where-satisfiable {v} {P} (no k) d = yes (λ s. absurd (k s))
+where-satisfiable {v} {P} (yes s) d = go (d s)
+  where
+    go : Dec P → Dec (v ≡ Satisfiable → P)
+    go (yes p) = yes (λ s. p)
+    go (no k) = no (λ f. k (f s))
+
+-- ---- an answer of the reader
+
+answer-accepted : (w : solution.Answer) → solution-said w ≡ none → w ≡ reading.Accepted
+answer-accepted reading.Accepted e = refl
+answer-accepted (reading.Refused f) e = some-none e
+
+answer-refused : (w : solution.Answer) → ¬ (solution-said w ≡ none) → (f : Refusal) × (w ≡ reading.Refused f)
+answer-refused reading.Accepted k = absurd (k refl)
+answer-refused (reading.Refused f) k = (f, refl)
+
+-- ---- the decoder
+
+module _ {prefix prefix-after loop loop-after : List ℕ} {answer : Decoded} {a : Automaton} {n m : ℕ} {r : Reader}
+    (d : Decodes prefix prefix-after loop loop-after answer a n m r) where
+  abbrev ν : Assignment
+  ν = stated-by a n m r
+
+  abbrev Result : Type 0
+  Result = JudgesDecoding a n m r prefix prefix-after loop loop-after answer
+
+  abbrev Kept : Decoded → Type 0
+  Kept = Untouched prefix prefix-after loop loop-after answer
+
+  outside : 256 ≤ length prefix → 1280 ≤ length loop → ¬ (Valid a × InRange r) → Kept (without (Refused Outside))
+  outside h g k = go (valid-decided a)
+    where
+      go : Dec (Valid a) → Kept (without (Refused Outside))
+      go (yes v) = d .state h g (λ i. k (v, i))
+      go (no v) = d .automaton h g v
+
+  module _ (h : 256 ≤ length prefix) (g : 1280 ≤ length loop) (v : Valid a × InRange r) (z : Dimensioned n m) where
+    admitted : Admitted prefix prefix-after loop loop-after answer a n m r
+    admitted = record { prefix-room = h; loop-room = g; valid = v .0; in-range = v .1; sizes = z }
+
+    -- what is answered to an accepted text, by its verdict
+    accepting : solution-said (whole a n m r .answer) ≡ none → ByVerdict prefix prefix-after loop loop-after answer a n m (whole a n m r .reader)
+    accepting e = d .accepted admitted (answer-accepted (whole a n m r .answer) e)
+
+  module _ (state letter : ℕ) (low : ¬ AllStep a n m (stated-by a n m r) → LowestWithout a n m (stated-by a n m r) state letter) where
+    -- without a word
+    abbrev Fails : Code → Type 0
+    Fails = TurnedDown (to-decode a n m r (length prefix) (length loop) state letter 0 0)
+
+    abbrev Passes : Type 0
+    Passes = Accepted (to-decode a n m r (length prefix) (length loop) state letter 0 0)
+
+    decided : Decided (to-decode a n m r (length prefix) (length loop) state letter 0 0)
+    decided = (
+      decLe 256 (length prefix),
+      λ h. (
+        decLe 1280 (length loop),
+        λ g. (
+          Dec·and (valid-decided a) (in-range-decided r),
+          λ v. (
+            dimensioned-decided n m,
+            λ z. (
+              fault-decided (solution-said (whole a n m r .answer)),
+              λ e. (
+                Dec·not (unstated-decided (verdict-of a n m r)),
+                λ k. (
+                  where-satisfiable (satisfiable-decided (verdict-of a n m r)) (λ s. all-step-decided),
+                  λ t. (
+                    where-satisfiable (satisfiable-decided (verdict-of a n m r)) (λ s.
+                        agree-decided (decodedValue a n m ν) a (decoded-valid (v .0) z ν (t s)) (v .0) refl),
+                    λ s. tt,
+                  ),
+                ),
+              ),
+            ),
+          ),
+        ),
+      ),
+    )
+      where
+        all-step-decided : Dec (AllStep a n m (stated-by a n m r))
+        all-step-decided = go (all-or-lowest a n m (stated-by a n m r))
+          where
+            go : AllStep a n m (stated-by a n m r) ⊎ ((q l : ℕ) × LowestWithout a n m (stated-by a n m r) q l) → Dec (AllStep a n m (stated-by a n m r))
+            go (inl t) = yes t
+            go (inr (q, l, w)) = no (λ t. w .no-step (t q l (w .state-lt) (w .letter-lt)))
+
+    -- a refusal that leaves both buffers as they were
+    refusal : {f : Refusal} {k : Code} → Fails k → Kept (without (Refused f)) → k ≡ codeOf f → Result
+    refusal {f} {k} t (e, p, l) g =
+        let said : decoder-said (answer .answer) ≡ some k = ap (λ x. decoder-said (x .answer)) e ∙ ap some (sym g) in
+        record {
+          state = state;
+          letter = letter;
+          x = [];
+          y = [];
+          judged = judged-refused t said (p, l);
+          lowest = low;
+          empty = λ k s other. (refl, refl);
+          accepted = λ s. some-none (sym said ∙ s);
+        }
+
+    acceptance : {w : Verdict} {y : Decoded} → Passes → verdict-of a n m r ≡ w → (answer ≡ y → Answers w (decodedValue a n m ν) answer)
+        → decoder-said (y .answer) ≡ none → Kept y → Result
+    acceptance t q is k (e, p, l) = record {
+      state = state;
+      letter = letter;
+      x = [];
+      y = [];
+      judged = judged-accepted t (ap (λ x. decoder-said (x .answer)) e ∙ k);
+      lowest = low;
+      empty = λ k s other. (refl, refl);
+      accepted = λ s. (subst (λ w. Answers w (decodedValue a n m ν) answer) (sym q) (is e), p, l);
+    }
+
+    result : ((k : Code) × Fails k) ⊎ Passes → Result
+    result (inl (k, inl (h, e))) = refusal (inl (h, e)) (d .short-prefix (omega arith)) e
+    result (inl (k, inr (h, inl (g, e)))) = refusal (inr (h, inl (g, e))) (d .short-loop h (omega arith)) e
+    result (inl (k, inr (h, inr (g, inl (v, e))))) = refusal (inr (h, inr (g, inl (v, e)))) (outside h g v) e
+    result (inl (k, inr (h, inr (g, inr (v, inl (z, e)))))) =
+        refusal (inr (h, inr (g, inr (v, inl (z, e))))) (d .dimensions h g (v .0) (v .1) z) e
+    result (inl (k, inr (h, inr (g, inr (v, inr (z, inl (f, e))))))) =
+        let (b, w) = answer-refused (whole a n m r .answer) f in
+        refusal (inr (h, inr (g, inr (v, inr (z, inl (f, e)))))) (d .text (admitted h g v z) b w)
+        (e ∙ ap (λ w. fault-code (solution-said w)) w)
+    result (inl (k, inr (h, inr (g, inr (v, inr (z, inr (f, inl (u, e)))))))) =
+        refusal (inr (h, inr (g, inr (v, inr (z, inr (f, inl (u, e))))))) (accepting h g v z f .unstated (Dec·not-not (unstated-decided (verdict-of a n m r)) .0 u)) e
+    result (inl (k, inr (h, inr (g, inr (v, inr (z, inr (f, inr (u, inl (t, e))))))))) = stuck (satisfiable-decided (verdict-of a n m r))
+      where
+        stuck : Dec (verdict-of a n m r ≡ Satisfiable) → Result
+        stuck (no j) = absurd (t (λ s. absurd (j s)))
+        stuck (yes s) =
+            refusal (inr (h, inr (g, inr (v, inr (z, inr (f, inr (u, inl (t, e))))))))
+            (accepting h g v z f .satisfiable s .no-step state letter (low (λ all. t (λ s. all)))) e
+    result (inl (k, inr (h, inr (g, inr (v, inr (z, inr (f, inr (u, inr (t, inl (j, e)))))))))) = differing (satisfiable-decided (verdict-of a n m r))
+      where
+        differing : Dec (verdict-of a n m r ≡ Satisfiable) → Result
+        differing (no i) = absurd (j (λ s. absurd (i s)))
+        differing (yes s) =
+            let w = accepting h g v z f .satisfiable s .table (t s) .differ (λ agree. j (λ s. agree)) in
+            let said = ap (λ x. decoder-said (x .answer)) (w .says) ∙ ap comparison-said (w .shown .says) in
+            record {
+              state = state;
+              letter = letter;
+              x = w .shown .x;
+              y = w .shown .y;
+              judged = judged-refused (inr (h, inr (g, inr (v, inr (z, inr (f, inr (u, inr (t, inl (j, refl))))))))) said (w .shown .prefix-is, w .shown .loop-is);
+              lowest = low;
+              empty = λ k e other. absurd (other (ap (λ (k : Code). k .number) (Option·some-inj .0 (sym e ∙ said))));
+              accepted = λ e. some-none (sym said ∙ e);
+            }
+    result (inl (k, inr (h, inr (g, inr (v, inr (z, inr (f, inr (u, inr (t, inr (j, e)))))))))) = absurd e
+    result (inr (h, (g, (v, (z, (f, (u, (t, (j, e))))))))) = go (verdict-of a n m r) refl
+      where
+        go : (w : Verdict) → verdict-of a n m r ≡ w → Result
+        go Unstated q = absurd (u q)
+        go Satisfiable q = acceptance (h, (g, (v, (z, (f, (u, (t, (j, e)))))))) q (λ e. e) refl (accepting h g v z f .satisfiable q .table (t q) .same (j q))
+        go Unsatisfiable q = acceptance (h, (g, (v, (z, (f, (u, (t, (j, e)))))))) q (λ e. e) refl (accepting h g v z f .none q)
+        go Unknown q = acceptance (h, (g, (v, (z, (f, (u, (t, (j, e)))))))) q (λ e. e) refl (accepting h g v z f .unknown q)
+
+  pub decoder-judged : JudgesDecoding a n m r prefix prefix-after loop loop-after answer
+  decoder-judged = go (all-or-lowest a n m (stated-by a n m r))
+    where
+      from : (state letter : ℕ) → (¬ AllStep a n m (stated-by a n m r) → LowestWithout a n m (stated-by a n m r) state letter) → Result
+      from state letter low =
+          result state letter low (decision (to-decode a n m r (length prefix) (length loop) state letter 0 0) (decided state letter low))
+
+      go : AllStep a n m (stated-by a n m r) ⊎ ((q l : ℕ) × LowestWithout a n m (stated-by a n m r) q l) → Result
+      go (inl t) = from 0 0 (λ k. absurd (k t))
+      go (inr (q, l, w)) = from q l (λ k. w)

@@ -1,0 +1,131 @@
+-- DEMAND 1, stated and proved. Bad input is refused with document 01's number and place, and what was lent or carried is as it was, but for 12's word; all
+-- else is accepted; every call ends. The last is proved of each function by its check: no function is accepted that does not return.
+--
+-- One field for each public function. It speaks of every outcome that the function's promise allows; `Conditions` has what each asks, in order.
+use mathlib.Core.Path.{_≡_, ap, _∙_, subst}
+use mathlib.Core.Logic.{_⊎_}
+use mathlib.Core.List.{List}
+use mathlib.Core.Option.{some}
+use Prim.Native.Nat.{ℕ, _≤_}
+use lib.IntN.{ℤ}
+use lib.ListN.{length}
+use Rattle.automaton.specs.declared.Automaton.{Automaton}
+use Rattle.automaton.specs.declared.refusal.Code.{Code}
+use Rattle.automaton.specs.Value.{Valid}
+use Rattle.compare.specs.declared.Comparison.{Comparison}
+use Rattle.compare.specs.Compared.{Compared}
+use Rattle.hoa_text.specs.Accepted.{accepted-valid}
+use Rattle.hoa_text.specs.Grammar.{gives}
+use Rattle.hoa_text.specs.ReadBack.{read-back}
+use Rattle.hoa_text.specs.Reading.{read}
+use Rattle.hoa_text.specs.Written.{text}
+use Rattle.hoa_write.specs.declared.Written.{Written}
+use Rattle.hoa_write.specs.Answer.{Answered}
+use Rattle.variables.specs.Sizes.{Dimensioned}
+use Rattle.clauses.specs.declared.Handed.{Handed}
+use Rattle.clauses.specs.declared.header.Totals.{Totals}
+use Rattle.clauses.specs.Header.{Headed}
+use Rattle.clauses.specs.Step.{Stepped}
+use Rattle.clause_text.specs.Answers.{LineStepped, BatchStepped}
+use Rattle.solution.specs.declared.Reader.{Reader}
+use Rattle.solution.specs.declared.Reply.{Reply}
+use Rattle.solution.specs.SolverText.{outcome}
+use Rattle.solution.specs.Machine.{told, run, end, fresh}
+use Rattle.solution.specs.Calls.{Called, Reads, Ends, InRange, last, kept}
+use Rattle.solution.specs.Pieces.{joined}
+use Rattle.decode.specs.declared.Decoded.{Decoded}
+use Rattle.decode.specs.Answers.{Decodes}
+use Rattle.decode.specs.Texts.{OfText, text-answer}
+use Rattle.demands.specs.File.{last-variable, steps-and-marks}
+use Rattle.demands.specs.Judgement.{Judged}
+use Rattle.demands.specs.Conditions.{to-read, hoa-said, to-write, writer-said, JudgesComparison, to-count, header-said, to-hand-out, step-said, solution-said, outcome-said, JudgesReading, JudgesDecoding}
+use Rattle.demands.specs.HoaJudged.{hoa-judged, writer-judged}
+use Rattle.demands.specs.ComparisonJudged.{comparison-judged}
+use Rattle.demands.specs.ClausesJudged.{header-judged, step-judged, line-judged, lines-judged}
+use Rattle.demands.specs.SolverTextJudged.{reading-judged, fault-number, refused-run, refused-end, whole-judged}
+use Rattle.demands.specs.DecoderJudged.{decoder-judged}
+
+-- ---- the statement
+
+-- The reader of HOA text: its answer is what `read` gives.
+pub record ReadsHoa : Type 0 where
+  pub judged : (s : List ℕ) → Judged (to-read s) (hoa-said (read s)) (Unit {0})
+  -- what is accepted lies in "The automaton"
+  pub valid : (s : List ℕ) (a : Automaton) → read s ≡ gives a → Valid a
+  -- and every automaton has a text that is accepted as that automaton: the reader does not always object
+  pub every : (a : Automaton) → Valid a → read (text a) ≡ gives a
+
+-- The reader of solver text: a call with a piece, one for the end, and what is said of whole texts
+pub record ReadsSolverText : Type 0 where
+  pub piece : (a : Automaton) (n m : ℕ) (r : Reader) (u : List ℕ) (e : Reply) → Called a n m r (told (run (last a n m) (kept a n m) r u)) e
+      → JudgesReading a n m r (told (run (last a n m) (kept a n m) r u)) e
+  pub finish : (a : Automaton) (n m : ℕ) (r : Reader) (e : Reply) → Ends a n m r e → JudgesReading a n m r (told (end (last a n m) (kept a n m) r)) e
+  -- "Text may arrive cut anywhere; the answer is that of the whole text": 9 and 10 are returned where the definition of solver text gives them
+  pub whole : (a : Automaton) (n m : ℕ) → Valid a → Dimensioned n m → (us : List (List ℕ)) (q : Reader) (e : Reply) → Reads a n m fresh us q → Ends a n m q e
+      → solution-said (e .answer) ≡ outcome-said (outcome (last-variable a n m) (steps-and-marks a n m) (joined us))
+  -- "refused solver text stays refused", whatever comes next
+  pub stays : (a : Automaton) (n m : ℕ) (r : Reader) (c : Code) → Valid a → InRange r → Dimensioned n m → solution-said (told r .answer) ≡ some c
+      → ((u : List ℕ) (e : Reply) → Called a n m r (told (run (last a n m) (kept a n m) r u)) e → e ≡ told r) × ((e : Reply) → Ends a n m r e → e ≡ told r)
+  -- what a text is refused with is 9 or 10
+  pub number : (r : Reader) (c : Code) → solution-said (told r .answer) ≡ some c → (c .number ≡ 9) ⊎ (c .number ≡ 10)
+
+pub record Demand1 : Type 0 where
+  -- the reader of HOA text
+  pub hoa : ReadsHoa
+  -- hoa_write::write
+  pub write : (a : Automaton) (out after : List ℕ) (answer : Written) → Answered a out after answer → Judged (to-write a (length out)) (writer-said answer) (after ≡ out)
+  -- compare::compare
+  pub compare : (a b : Automaton) (prefix prefix-after loop loop-after : List ℕ) (answer : Comparison) → Compared a b prefix prefix-after loop loop-after answer
+      → JudgesComparison a b prefix prefix-after loop loop-after answer
+  -- clauses::header::header; nothing is lent or carried
+  pub header : (a : Automaton) (n m : ℕ) (answer : Totals) → Headed a n m answer → Judged (to-count a n m) (header-said answer) (Unit {0})
+  -- clauses::step
+  pub step : (a : Automaton) (n m x : ℕ) (d e : List ℤ) (r : Handed) → Stepped a n m x d e r
+      → Judged (to-hand-out 8 (length d) a n m x) (step-said (r .answer)) ((r .position ≡ x) × (e ≡ d))
+  -- clause_text::line
+  pub line : (a : Automaton) (n m x : ℕ) (d e : List ℕ) (r : Handed) → LineStepped a n m x d e r
+      → Judged (to-hand-out 80 (length d) a n m x) (step-said (r .answer)) ((r .position ≡ x) × (e ≡ d))
+  -- clause_text::lines
+  pub lines : (a : Automaton) (n m x : ℕ) (d e : List ℕ) (r : Handed) → BatchStepped a n m x d e r
+      → Judged (to-hand-out 80 (length d) a n m x) (step-said (r .answer)) ((r .position ≡ x) × (e ≡ d))
+  -- solution: Reader::read and Reader::finish
+  pub solver-text : ReadsSolverText
+  -- decode::decode
+  pub decode : (prefix prefix-after loop loop-after : List ℕ) (answer : Decoded) (a : Automaton) (n m : ℕ) (r : Reader)
+      → Decodes prefix prefix-after loop loop-after answer a n m r → JudgesDecoding a n m r prefix prefix-after loop loop-after answer
+  -- the decoder takes what a fresh reader holds of a text: 9 and 10 where the definition of solver text gives them, and else by what the text says
+  pub decode-text : (prefix prefix-after loop loop-after : List ℕ) (answer : Decoded) (a : Automaton) (n m : ℕ) → 256 ≤ length prefix → 1280 ≤ length loop → Valid a
+      → Dimensioned n m → (us : List (List ℕ)) (r : Reader) → Reads a n m fresh us r → Decodes prefix prefix-after loop loop-after answer a n m r
+      → OfText prefix prefix-after loop loop-after answer a n m (outcome (last-variable a n m) (steps-and-marks a n m) (joined us))
+
+-- ---- the proof
+
+reads-hoa : ReadsHoa
+reads-hoa = record { judged = hoa-judged; valid = λ s a e. accepted-valid s e; every = read-back }
+
+reads-solver-text : ReadsSolverText
+reads-solver-text = record {
+  piece = λ a n m r u e c. reading-judged a n m r _ e c;
+  finish = λ a n m r e c. reading-judged a n m r _ e c;
+  whole = λ a n m v d us q e k c. whole-judged a n m v d us q e k c;
+  stays = λ a n m r c v i d t. (
+    λ u e k. k .text v i d ∙ ap told (refused-run r c t (last a n m) (kept a n m) u),
+    λ e k. k .text v i d ∙ ap told (refused-end r c t (last a n m) (kept a n m)),
+  );
+  number = fault-number;
+}
+
+pub demand-1 : Demand1
+demand-1 = record {
+  hoa = reads-hoa;
+  write = writer-judged;
+  compare = λ a b prefix prefix-after loop loop-after answer c. comparison-judged c;
+  header = header-judged;
+  step = step-judged;
+  line = line-judged;
+  lines = lines-judged;
+  solver-text = reads-solver-text;
+  decode = λ prefix prefix-after loop loop-after answer a n m r c. decoder-judged c;
+  decode-text = λ prefix prefix-after loop loop-after answer a n m h g v d us r k c.
+      (text-answer v d h g k c);
+}

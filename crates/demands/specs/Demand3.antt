@@ -1,0 +1,135 @@
+-- DEMAND 3, stated and proved: what the clause file of a reference, n and m says, over every list of calls, every satisfying assignment, every text that states
+-- one, and every automaton that agrees. Sentences in quotes are document 01's, most of them from "The words of demand 3".
+--
+-- Of its clause c, field 1 shuts out a clause step whose first call alone is true and "ended" before clause C, field 2 a C with no list behind it, and fields
+-- 3 to 5 a list of one impossible clause and the same list for every reference.
+use mathlib.Core.Path.{_≡_, sym, ap₂, subst}
+use mathlib.Core.Logic.{_↔_}
+use mathlib.Core.List.{List}
+use Prim.Native.Nat.{ℕ, _+_, _*_, _^_, _≤_, _<_}
+use native.Mathlib.Decide.{decLe}
+use native.Mathlib.Omega.{arith}
+use lib.ListN.{length}
+use Rattle.automaton.specs.declared.Automaton.{Automaton}
+use Rattle.automaton.specs.declared.refusal.Refusal.the-variants.{Short}
+use Rattle.automaton.specs.Value.{Valid, letters}
+use Rattle.automaton.specs.View.{view, view-formed}
+use Rattle.encoding.specs.Variables.{base, base-number}
+use Rattle.encoding.specs.Clauses.{Assignment, Satisfies, group₄}
+use Rattle.encoding.specs.Base.{base-length, base-encodes}
+use Rattle.variables.specs.Sizes as sizes
+use Rattle.variables.specs.Sizes.{Dimensioned}
+use Rattle.clauses.specs.declared.header.Totals.{Totals}
+use Rattle.clauses.specs.declared.header.Totals.the-variants.{Of, Refused as NoTotals}
+use Rattle.clauses.specs.Header.{Headed}
+use Rattle.clauses.specs.Calls.{Call, Calls, HandsOut}
+use Rattle.clauses.specs.HandsOut.{hands-out}
+use Rattle.clause_text.specs.Batches.{BatchCall, BatchCalls, LinesOut}
+use Rattle.clause_text.specs.LinesOut.{lines-out}
+use Rattle.solution.specs.declared.Reader.{Reader}
+use Rattle.solution.specs.declared.Reply.{Reply}
+use Rattle.solution.specs.Assignment.{States}
+use Rattle.solution.specs.Machine.{fresh}
+use Rattle.solution.specs.Calls.{Reads, Ends, last, kept}
+use Rattle.solution.specs.Pieces.{joined}
+use Rattle.decode.specs.declared.Decoded.{Decoded}
+use Rattle.decode.specs.declared.Answer.the-variants.{Refused}
+use Rattle.decode.specs.Answers.{Untouched, Decodes, found, without}
+use Rattle.decode.specs.Candidates.{Found, satisfying-steps, satisfying-found, found-decoded, satisfiable as can-be-satisfied}
+use Rattle.decode.specs.Texts.{satisfying-text, satisfying-ended}
+use Rattle.decode.specs.Table.{decodedValue}
+use Rattle.decode.specs.Value.{decoded-same-value}
+use Rattle.demands.specs.File.{file, last-variable, steps-and-marks}
+
+-- ---- the statement
+
+-- "A fresh reader of solver text has read nothing; its own state goes likewise from piece to piece, empty ones too, to the end, and the decoder takes what
+-- it then holds." The decoder ends the text; where the caller has ended it before, that changes nothing.
+pub data Held (reference : Automaton) (n m : ℕ) (pieces : List (List ℕ)) : Reader → Type 0 where
+  read : {r : Reader} → Reads reference n m fresh pieces r → Held reference n m pieces r
+  ended : {r : Reader} {e : Reply} → Reads reference n m fresh pieces r → Ends reference n m r e → Held reference n m pieces (e .reader)
+
+-- the decoder answers C, or 13 where a buffer is short, and leaves both buffers as they were
+pub record Delivers (C : Automaton) (prefix prefix-after loop loop-after : List ℕ) (answer : Decoded) : Type 0 where
+  pub table : 256 ≤ length prefix → 1280 ≤ length loop → answer ≡ found C
+  pub short-prefix : length prefix < 256 → answer ≡ without (Refused (Short 256 (length prefix)))
+  pub short-loop : 256 ≤ length prefix → length loop < 1280 → answer ≡ without (Refused (Short 1280 (length loop)))
+  pub untouched : (prefix-after ≡ prefix) × (loop-after ≡ loop)
+
+pub record Demand3 (reference : Automaton) (n m : ℕ) : Type 0 where
+  -- 1. "A fresh clause step stands before clause 1. Each call gets the same reference, n and m, .. a buffer of any length and the state as the call before it,
+  -- refused or not, left it." The calls that are not refused hand out the clauses of the file in order, one each, and then "ended" again and again; a refused
+  -- call keeps the position and the buffer.
+  pub clauses : (cs : List Call) → Calls reference n m 0 cs → HandsOut reference n m cs
+  -- The same file as text, as many lines a call as the buffer holds.
+  pub lines : (cs : List BatchCall) → BatchCalls reference n m 0 cs → LinesOut reference n m cs
+  -- 2. "The header is `p cnf V C`": the last variable and the number of clauses.
+  pub header : (r : Totals) → Headed reference n m r → r ≡ Of (last-variable reference n m) (length (file reference n m))
+  -- "C counted beforehand: nL + (1 + nnrL) + n³rrL·2^m·2^s·2^m + the length of group 4"
+  pub count : length (file reference n m)
+      ≡ n * letters reference + (1 + n * n * reference .states * letters reference)
+      + n * n * n * reference .states * reference .states * letters reference * 2 ^ m * 2 ^ reference .sets * 2 ^ m
+      + length (group₄ (base (view reference) n m) (base-number (view reference) n m))
+  -- 3. The file can be satisfied exactly if some automaton C is found: with n states, m sets, "start 0" and the reference's propositions and names, and in
+  -- agreement with the reference on every lasso word.
+  pub satisfiable : ((ν : Assignment) × Satisfies ν (file reference n m)) ↔ ((C : Automaton) × Found reference n m C)
+  -- "An assignment says yes or no to each variable from 1 to V": what it says of other numbers does not count.
+  pub within : (ν ξ : Assignment) → ((k : ℕ) → 0 < k → k ≤ last-variable reference n m → ν k ≡ ξ k) → Satisfies ν (file reference n m)
+      → Satisfies ξ (file reference n m) × (decodedValue reference n m ν ≡ decodedValue reference n m ξ)
+  -- 4. Every assignment that satisfies the file decodes to such an automaton,
+  pub decodes : (ν : Assignment) → Satisfies ν (file reference n m) → Found reference n m (decodedValue reference n m ν)
+  -- and for every text that states it, and every list of pieces that make up the text, the decoder answers that automaton from what a fresh reader then holds.
+  pub delivers : (ν : Assignment) → Satisfies ν (file reference n m) → (text : List ℕ) → States (last-variable reference n m) (steps-and-marks reference n m) text ν
+      → (pieces : List (List ℕ)) → joined pieces ≡ text → (r : Reader) → Held reference n m pieces r
+      → (prefix prefix-after loop loop-after : List ℕ) (answer : Decoded) → Decodes prefix prefix-after loop loop-after answer reference n m r
+      → Delivers (decodedValue reference n m ν) prefix prefix-after loop loop-after answer
+  -- 5. Every such automaton is decoded from an assignment that satisfies the file: the same value.
+  pub complete : (C : Automaton) → Found reference n m C → (ν : Assignment) × Satisfies ν (file reference n m) × (decodedValue reference n m ν ≡ C)
+
+-- ---- the proof
+
+module _ {reference : Automaton} {n m : ℕ} (v : Valid reference) (d : Dimensioned n m) where
+  header-is : (r : Totals) → Headed reference n m r → r ≡ Of (last-variable reference n m) (length (file reference n m))
+  header-is (Of last count) (w, i, (e, f)) = ap₂ Of e f
+  header-is (NoTotals f) (sizes.outside w) = absurd (w v)
+  header-is (NoTotals f) (sizes.dimensions w i) = absurd (i d)
+
+  delivered : (ν : Assignment) → Satisfies ν (file reference n m) → (pieces : List (List ℕ)) → States (last reference n m) (kept reference n m) (joined pieces) ν
+      → (r : Reader) → Held reference n m pieces r → (prefix prefix-after loop loop-after : List ℕ) (answer : Decoded)
+      → Decodes prefix prefix-after loop loop-after answer reference n m r → Delivers (decodedValue reference n m ν) prefix prefix-after loop loop-after answer
+  delivered ν s pieces t r h prefix prefix-after loop loop-after answer c = record {
+    table = λ p l. by-held h c p l .0;
+    short-prefix = λ p. c .short-prefix p .0;
+    short-loop = λ p l. c .short-loop p l .0;
+    untouched = go (decLe 256 (length prefix)) (decLe 1280 (length loop));
+  }
+    where
+      by-held : {r : Reader} → Held reference n m pieces r → Decodes prefix prefix-after loop loop-after answer reference n m r → 256 ≤ length prefix → 1280 ≤ length loop
+          → Untouched prefix prefix-after loop loop-after answer (found (decodedValue reference n m ν))
+      by-held (read k) c p l = satisfying-text v d p l ν s k t c
+      by-held (ended k e) c p l = satisfying-ended v d p l ν s k t e c
+
+      go : Dec (256 ≤ length prefix) → Dec (1280 ≤ length loop) → (prefix-after ≡ prefix) × (loop-after ≡ loop)
+      go (no p) l = let (e, x, y) = c .short-prefix (omega arith) in (x, y)
+      go (yes p) (no l) = let (e, x, y) = c .short-loop p (omega arith) in (x, y)
+      go (yes p) (yes l) = let (e, x, y) = by-held h c p l in (x, y)
+
+  every-field : Demand3 reference n m
+  every-field = record {
+    clauses = hands-out v d;
+    lines = lines-out v d;
+    header = header-is;
+    count = base-length (view reference) n m;
+    satisfiable = can-be-satisfied v d;
+    within = λ ν ξ same s. (
+      base-encodes (view reference) n m (view-formed v) (d .n-some) .within ν ξ same s,
+      decoded-same-value reference n m ν ξ (λ k i j. same k i (omega arith)) (satisfying-steps v d ν s),
+    );
+    decodes = satisfying-found v d;
+    delivers = λ ν s text t pieces e. delivered ν s pieces (subst (λ t. States (last reference n m) (kept reference n m) t ν) (sym e) t);
+    complete = found-decoded v d;
+  }
+
+-- for every reference in "The automaton", "n states (1 to 8), m sets (0 to 4)"
+pub demand-3 : {reference : Automaton} {n m : ℕ} → Valid reference → Dimensioned n m → Demand3 reference n m
+demand-3 v d = every-field v d

@@ -1,0 +1,46 @@
+-- The reader and the writer of HOA text are judged by their conditions.
+use mathlib.Core.Path.{_≡_, sym, ap, _∙_}
+use mathlib.Core.Logic.{inl, inr}
+use mathlib.Core.Bool.{Bool, cond}
+use mathlib.Core.List.{List}
+use mathlib.Core.Option.{some}
+use Prim.Native.Nat.{ℕ}
+use native.Mathlib.Decide.{decLe}
+use native.Mathlib.Omega.{arith}
+use borrow.Author.Tests.{le-leb, lt-leb}
+use lib.Dec.{leb}
+use lib.ListN.{length}
+use Rattle.automaton.specs.declared.Automaton.{Automaton}
+use Rattle.automaton.specs.declared.refusal.Code.{Code}
+use Rattle.automaton.specs.declared.refusal.Refusal.the-variants.{Size}
+use Rattle.hoa_text.specs.Grammar.{refuses}
+use Rattle.hoa_text.specs.Reading.{reading, read}
+use Rattle.hoa_text.specs.Tokens.{tokens}
+use Rattle.hoa_write.specs.declared.Written.{Written}
+use Rattle.hoa_write.specs.Answer.{Answered}
+use Rattle.demands.specs.Judgement.{TurnedDown, Judged}
+use Rattle.demands.specs.Conditions.{to-write, writer-said, to-read, hoa-said}
+use Rattle.demands.specs.Decisions.{fault-decided, fault-is, judged, valid-decided}
+
+pub hoa-judged : (s : List ℕ) → Judged (to-read s) (hoa-said (read s)) (Unit {0})
+unfolding read
+hoa-judged s =
+    judged (decLe (length s) 65536, λ h. (fault-decided (hoa-said (reading (tokens s))), λ e. tt)) refused (λ (h, (e, t)). by-length (le-leb (length s) 65536 h) ∙ e)
+  where
+    by-length : {b : Bool} → leb (length s) 65536 ≡ b → hoa-said (read s) ≡ hoa-said (cond b (reading (tokens s)) (refuses (Size 65536)))
+    by-length e = ap (λ b. hoa-said (cond b (reading (tokens s)) (refuses (Size 65536)))) e
+
+    refused : (c : Code) → TurnedDown (to-read s) c → (hoa-said (read s) ≡ some c) × Unit {0}
+    refused c (inl (h, e)) = (by-length (lt-leb (length s) 65536 (omega arith)) ∙ ap some (sym e), tt)
+    refused c (inr (h, inl (f, e))) = (by-length (le-leb (length s) 65536 h) ∙ fault-is (hoa-said (reading (tokens s))) c f e, tt)
+    refused c (inr (h, inr (f, t))) = absurd t
+
+pub writer-judged : (a : Automaton) (out after : List ℕ) (answer : Written) → Answered a out after answer
+    → Judged (to-write a (length out)) (writer-said answer) (after ≡ out)
+writer-judged a out after answer w =
+    judged (decLe 8192 (length out), λ h. (valid-decided a, λ v. tt)) refused (λ (h, (v, t)). ap writer-said (w .written h v .0))
+  where
+    refused : (c : Code) → TurnedDown (to-write a (length out)) c → (writer-said answer ≡ some c) × (after ≡ out)
+    refused c (inl (h, e)) = let (s, k) = w .short (omega arith) in (ap writer-said s ∙ ap some (sym e), k)
+    refused c (inr (h, inl (v, e))) = let (s, k) = w .outside h v in (ap writer-said s ∙ ap some (sym e), k)
+    refused c (inr (h, inr (v, t))) = absurd t

@@ -1,0 +1,129 @@
+-- The reader of solver text is judged by its conditions; refused text stays refused.
+use mathlib.Core.Path.{_≡_, refl, sym, ap, _∙_, subst}
+use mathlib.Core.Logic.{_⊎_, inl, inr, ⊎-elim, Dec·and}
+use mathlib.Core.Bool.{Bool, true, false, cond}
+use mathlib.Core.List.{List, [], _∷_, _++_}
+use mathlib.Core.Option.{none, some, Option·some-inj}
+use Prim.Native.Nat.{ℕ}
+use native.Mathlib.Omega.{arith}
+use lib.Dec.{eqb}
+use Rattle.automaton.specs.declared.Automaton.{Automaton}
+use Rattle.automaton.specs.declared.refusal.Code.{Code}
+use Rattle.automaton.specs.declared.refusal.Refusal.the-variants.{Outside, Dimensions}
+use Rattle.automaton.specs.Value.{Valid}
+use Rattle.variables.specs.Sizes.{Dimensioned}
+use Rattle.solution.specs.declared.Reader.{Reader}
+use Rattle.solution.specs.declared.Reply.{Reply}
+use Rattle.solution.specs.declared.scan.Place.{Place}
+use Rattle.solution.specs.declared.scan.Place.the-variants.{Start, Comment, AfterS, BeforeWord, Word, AfterWord, AfterToken, BeforeToken, AfterMinus, Digits, Ended, BadForm, BadLiteral}
+use Rattle.solution.specs.SolverText.{Outcome, gives, refused, outcome}
+use Rattle.solution.specs.Machine.{at-rest, told, answerAt, refusedAt, atLimit, byPlace, step, run, endAt, end, fresh}
+use Rattle.solution.specs.Calls.{Called, Reads, Ends, InRange, last, kept, refusal}
+use Rattle.solution.specs.Pieces.{joined, whole-text, Tells}
+use Rattle.demands.specs.File.{last-variable, steps-and-marks}
+use Rattle.demands.specs.Judgement.{TurnedDown, Accepted}
+use Rattle.demands.specs.Conditions.{to-begin, no-fault, solution-said, outcome-said, JudgesReading}
+use Rattle.demands.specs.Decisions.{Decided, fault-decided, fault-is, some-none, judged, valid-decided, dimensioned-decided, in-range-decided}
+
+-- ---- one call
+
+module _ (a : Automaton) (n m : ℕ) (r : Reader) (read reply : Reply) (c : Called a n m r read reply) where
+  decided : Decided (to-begin a n m r ++ (no-fault (solution-said (read .answer)) ∷ []))
+  decided = (Dec·and (valid-decided a) (in-range-decided r), λ v. (dimensioned-decided n m, λ d. (fault-decided (solution-said (read .answer)), λ e. tt)))
+
+  outside : ¬ (Valid a × InRange r) → reply ≡ refusal Outside r
+  outside k = go (valid-decided a)
+    where
+      go : Dec (Valid a) → reply ≡ refusal Outside r
+      go (yes v) = c .state (λ i. k (v, i))
+      go (no v) = c .automaton v
+
+  sizes : Valid a → InRange r → ¬ Dimensioned n m → reply ≡ refusal (Dimensions n m) r
+  sizes v i k = c .sizes v i k
+
+  text : Valid a → InRange r → Dimensioned n m → reply ≡ read
+  text v i d = c .text v i d
+
+  refuses : (k : Code) → TurnedDown (to-begin a n m r ++ (no-fault (solution-said (read .answer)) ∷ [])) k → (solution-said (reply .answer) ≡ some k) × Unit {0}
+  refuses k (inl (h, e)) = (ap (λ x. solution-said (x .answer)) (outside h) ∙ ap some (sym e), tt)
+  refuses k (inr (h, inl (d, e))) = (ap (λ x. solution-said (x .answer)) (sizes (h .0) (h .1) d) ∙ ap some (sym e), tt)
+  refuses k (inr (h, inr (d, inl (f, e)))) = (ap (λ x. solution-said (x .answer)) (text (h .0) (h .1) d) ∙ fault-is (solution-said (read .answer)) k f e, tt)
+  refuses k (inr (h, inr (d, inr (f, t)))) = absurd t
+
+  accepts : Accepted (to-begin a n m r ++ (no-fault (solution-said (read .answer)) ∷ [])) → solution-said (reply .answer) ≡ none
+  accepts (h, (d, (e, t))) = ap (λ x. solution-said (x .answer)) (text (h .0) (h .1) d) ∙ e
+
+  pub reading-judged : JudgesReading a n m r read reply
+  reading-judged = record { judged = judged decided refuses accepts; kept = stays; moved = λ (h, (d, t)). ap (λ x. x .reader) (text (h .0) (h .1) d) }
+    where
+      stays : (k : Code) → TurnedDown (to-begin a n m r) k → reply .reader ≡ r
+      stays k (inl (h, e)) = ap (λ x. x .reader) (outside h)
+      stays k (inr (h, inl (d, e))) = ap (λ x. x .reader) (sizes (h .0) (h .1) d)
+      stays k (inr (h, inr (d, t))) = absurd t
+
+-- ---- "refused solver text stays refused"
+
+fault-place : (p : Place) (at : ℕ) (c : Code) → solution-said (answerAt p at) ≡ some c → (p ≡ BadForm) ⊎ (p ≡ BadLiteral)
+unfolding answerAt
+fault-place Start at c e = some-none (sym e)
+fault-place Comment at c e = some-none (sym e)
+fault-place AfterS at c e = some-none (sym e)
+fault-place BeforeWord at c e = some-none (sym e)
+fault-place Word at c e = some-none (sym e)
+fault-place AfterWord at c e = some-none (sym e)
+fault-place AfterToken at c e = some-none (sym e)
+fault-place BeforeToken at c e = some-none (sym e)
+fault-place AfterMinus at c e = some-none (sym e)
+fault-place Digits at c e = some-none (sym e)
+fault-place Ended at c e = some-none (sym e)
+fault-place BadForm at c e = inl refl
+fault-place BadLiteral at c e = inr refl
+
+both-same : {A : Type 0} (x : Bool) (y : A) → cond x y y ≡ y
+both-same true y = refl
+both-same false y = refl
+
+module _ (r : Reader) (c : Code) (e : solution-said (told r .answer) ≡ some c) where
+  place : (r .scan .place ≡ BadForm) ⊎ (r .scan .place ≡ BadLiteral)
+  place = fault-place (r .scan .place) (r .scan .at) c e
+
+  pub fault-number : (c .number ≡ 9) ⊎ (c .number ≡ 10)
+  unfolding answerAt
+  fault-number =
+      ⊎-elim
+      (λ g. inl (sym (ap (λ (k : Code). k .number) (Option·some-inj .0 (ap (λ p. solution-said (answerAt p (r .scan .at))) (sym g) ∙ e)))))
+      (λ g. inr (sym (ap (λ (k : Code). k .number) (Option·some-inj .0 (ap (λ p. solution-said (answerAt p (r .scan .at))) (sym g) ∙ e)))))
+      place
+
+  module _ (L K : ℕ) where
+    refused-byte : (b : ℕ) → step L K (r .scan) (r .named) b ≡ r
+    unfolding step atLimit byPlace refusedAt
+    refused-byte b = ⊎-elim (λ g. subst Stays (sym g) same) (λ g. subst Stays (sym g) same) place
+      where
+        Stays : Place → Type 0
+        Stays p = cond (eqb (r .scan .at) 4294967295) (at-rest (atLimit p (r .scan)) (r .named)) (byPlace p L K (r .scan) (r .named) b) ≡ r
+
+        same : cond (eqb (r .scan .at) 4294967295) r r ≡ r
+        same = both-same (eqb (r .scan .at) 4294967295) r
+
+    pub refused-run : (u : List ℕ) → run L K r u ≡ r
+    refused-run [] = refl
+    refused-run (b ∷ u) = ap (λ x. run L K x u) (refused-byte b) ∙ refused-run u
+
+    pub refused-end : end L K r ≡ r
+    unfolding endAt
+    refused-end = ⊎-elim (λ g. ap (λ p. endAt p L K (r .scan) (r .named)) g) (λ g. ap (λ p. endAt p L K (r .scan) (r .named)) g) place
+
+-- ---- whole texts
+
+pub whole-judged : (a : Automaton) (n m : ℕ) → Valid a → Dimensioned n m → (us : List (List ℕ)) (q : Reader) (e : Reply) → Reads a n m fresh us q → Ends a n m q e
+    → solution-said (e .answer) ≡ outcome-said (outcome (last-variable a n m) (steps-and-marks a n m) (joined us))
+whole-judged a n m v d us q e k c =
+    go (outcome (last a n m) (kept a n m) (joined us)) refl
+  where
+    tells : Tells (kept a n m) (outcome (last a n m) (kept a n m) (joined us)) e
+    tells = whole-text v d k c
+
+    go : (x : Outcome) → outcome (last a n m) (kept a n m) (joined us) ≡ x → solution-said (e .answer) ≡ outcome-said x
+    go (gives s) g = ap solution-said (tells .accepted s g)
+    go (refused f) g = ap solution-said (tells .refusal f g)
