@@ -20,7 +20,7 @@ digit-and (suc zero) (suc zero) ha hb = refl
 digit-and (suc zero) (suc (suc b)) ha hb = absurd (omega arith)
 digit-and (suc (suc a)) b ha hb = absurd (omega arith)
 
-has-and : (a b i : ℕ) → has (bitAnd a b) i ≡ (has a i && has b i)
+pub has-and : (a b i : ℕ) → has (bitAnd a b) i ≡ (has a i && has b i)
 has-and a b i =
     ap (λ n. digit (n % 2)) (and-shr a b i) ∙ ap digit (and-mod (a / 2 ^ i) (b / 2 ^ i) 1)
     ∙ digit-and (a / 2 ^ i % 2) (b / 2 ^ i % 2) (mod-lt (a / 2 ^ i) (zero-lt-suc 1)) (mod-lt (b / 2 ^ i) (zero-lt-suc 1))
@@ -33,7 +33,7 @@ digit-not (suc (suc a)) h = absurd (omega arith)
 all-have : (i : ℕ) → i < 16 → 65535 / 2 ^ i % 2 ≡ 1
 all-have i h = eqb-true (65535 / 2 ^ i % 2) 1 (all-at 16 (λ i. eqb (65535 / 2 ^ i % 2) 1) refl i h)
 
-has-not : (a i : ℕ) → i < 16 → has (bitXor a 65535) i ≡ not (has a i)
+pub has-not : (a i : ℕ) → i < 16 → has (bitXor a 65535) i ≡ not (has a i)
 has-not a i h =
     ap (λ n. digit (n % 2)) (xor-shr a 65535 i) ∙ ap digit (xor-mod (a / 2 ^ i) (65535 / 2 ^ i) 1)
     ∙ ap (λ n. digit (bitXor (a / 2 ^ i % 2) n)) (all-have i h) ∙ digit-not (a / 2 ^ i % 2) (mod-lt (a / 2 ^ i) (zero-lt-suc 1))

@@ -1,0 +1,8 @@
+pub mod Told
+pub mod Opened
+pub mod Sets
+pub mod Tables
+pub mod Marks
+pub mod Edges
+pub mod Parts
+pub mod Missing
