@@ -1,18 +1,17 @@
 -- The next line, and lines one after another.
-use mathlib.Core.Path.{_≡_, refl, sym, ap, _∙_, subst}
-use mathlib.Core.Logic.{_≢_, inl, inr}
-use mathlib.Core.List.{List, [], _∷_, _++_, append-assoc, append-nil, cons≢nil}
-use Prim.Native.Nat.{ℕ, zero, suc, _+_, _≤_, _<_}
-use native.Mathlib.Nat.{not-suc-le-zero}
-use native.Mathlib.Numerals.{add-one}
+use mathlib.Core.Path.{_≡_, refl, sym, ap, ap₂, _∙_, subst, subst₂}
+use mathlib.Core.Logic.{_≢_, _⊎_, inl, inr}
+use mathlib.Core.List.{List, [], _∷_, _++_, append-nil}
+use Prim.Native.Nat.{ℕ, _+_, _-_, _≤_, _<_}
+use native.Mathlib.Nat.{add-zero}
 use native.Mathlib.Omega.{arith}
-use borrow.Author.Count.{below-more}
 use lib.IntN.{ℤ}
-use lib.ListN.{length, take, drop, length-append, length-drop}
+use lib.ListN.{length, take, drop, length-append, length-drop, take-append-drop}
+use lib.Seq.{take-add, drop-drop}
 use Rattle.encoding.specs.Variables.{Task, Var}
 use Rattle.encoding.specs.Positions.{positions}
 use Rattle.decimal.specs.Wrote.{Wrote}
-use Rattle.decimal.specs.Writing.{wrote-none, wrote-then, wrote-length}
+use Rattle.decimal.specs.Writing.{wrote-none, wrote-then, wrote-length, wrote-front}
 use Rattle.variables.specs.declared.sizes.Sizes.{Sizes}
 use Rattle.variables.specs.Numbers.{numberOf}
 use Rattle.clause_list.specs.declared.next.Next.{Next}
@@ -21,12 +20,12 @@ use Rattle.clause_list.specs.Next.{Found, handed, ended, next-clause, clauses-f
 use Rattle.clause_list.specs.Following.{First, next-first, position-of, next-le}
 use Rattle.clause_list.specs.Handing as handing
 use Rattle.clause_list.specs.Handing.{Hands}
-use Rattle.clauses.specs.HandsOut.{wrote-front}
 use Rattle.clause_text.specs.declared.batch.Filled.{Filled}
 use Rattle.clause_text.specs.Text.{lineText, linesText}
 use Rattle.clause_text.specs.LineLength.{found-line-le}
-use Rattle.clause_text.specs.Filling.{Lines, Filling}
-use Rattle.clause_text.specs.LineNext.{LineNext, written, nothing}
+use Rattle.clause_text.specs.Filling.{Lines, Longer}
+use Rattle.clause_text.specs.LineNext.{LineNext, written, nothing, LineIfRoom, fits, long, Further}
+use Rattle.clause_text.specs.LinesOut.{lines-append}
 
 -- ---- the next line
 
@@ -60,86 +59,104 @@ pub line-length : {f : Found} {d e : List ℕ} {at : ℕ} {r : Filled} → LineN
 line-length (written c q w) = wrote-length w
 line-length (nothing q w h) = ap length w
 
--- ---- one line more
+-- a line in an array of 80 bytes, copied where it fits
+module _ {f : Found} {a b : List ℕ} {r : Filled} (l : LineNext f a 0 b r) where
+  pub copied-room : r .end ≤ length b
+  copied-room = go l
+    where
+      go : LineNext f a 0 b r → r .end ≤ length b
+      go (written c q w) = omega (arith, w .room, wrote-length w)
+      go (nothing q w h) = omega arith
+
+  pub copied-line : (from : ℕ) {d : List ℕ} {at : ℕ} {e : List ℕ} {k : ℕ} → Wrote d at (take (r .end) b) e k → LineIfRoom f from d at e (record { end = k; position = r .position })
+  copied-line from {d} {at} {e} {k} v = fits (go l)
+    where
+      go : LineNext f a 0 b r → LineNext f d at e (record { end = k; position = r .position })
+      go (written c q w) = written c q (subst (λ t. Wrote d at t e k) (wrote-front w) v)
+      go (nothing q w h) =
+          let none : take (r .end) b ≡ [] = ap (λ k. take k b) h in
+          nothing q (v .is ∙ ap₂ (λ t k. take at d ++ (t ++ drop k d)) none (v .next ∙ ap (λ t. at + length t) none ∙ add-zero at) ∙ take-append-drop at d)
+          (v .next ∙ ap (λ t. at + length t) none ∙ add-zero at)
+
+  pub not-copied : (from : ℕ) (d : List ℕ) (at : ℕ) → at ≤ length d → length d - at < r .end → LineIfRoom f from d at d (record { end = at; position = from })
+  not-copied from d at i h = go l
+    where
+      go : LineNext f a 0 b r → LineIfRoom f from d at d (record { end = at; position = from })
+      go (written c q w) = long c (r .position) q (omega (arith, w .next)) refl refl refl
+      go (nothing q w n) = absurd (omega arith)
+
+-- ---- lines after lines
 
 pub line-some : (c : List ℤ) → 1 ≤ length (lineText c)
 line-some [] = omega arith
 line-some (x ∷ c) = simp length-append (omega arith)
 
-lines-snoc : (cs : List (List ℤ)) (c : List ℤ) → linesText (cs ++ (c ∷ [])) ≡ linesText cs ++ lineText c
-lines-snoc [] c = append-nil (lineText c)
-lines-snoc (b ∷ cs) c = ap (λ t. lineText b ++ t) (lines-snoc cs c) ∙ sym (append-assoc (lineText b) (linesText cs) (lineText c))
-
--- the element after the first k, and what follows it
-take-next : {A : Type 0} (k : ℕ) (l : List A) {a : A} {r : List A} → drop k l ≡ a ∷ r → (take (k + 1) l ≡ take k l ++ (a ∷ [])) × (drop (k + 1) l ≡ r)
-take-next {A} k l {a} {r} e = rw (add-one k) (go k l e)
-  where
-    go : (k : ℕ) (l : List A) → drop k l ≡ a ∷ r → (take (suc k) l ≡ take k l ++ (a ∷ [])) × (drop (suc k) l ≡ r)
-    go zero [] e = absurd (cons≢nil (sym e))
-    go zero (b ∷ l) e = ((cc), (cc))
-    go (suc k) [] e = absurd (cons≢nil (sym e))
-    go (suc k) (b ∷ l) e = let (p, q) = go k l e in (ap (λ t. b ∷ t) p, q)
-
 module _ (T : Task) (num : Var → ℕ) where
-  pub lines-none : (x : ℕ) (d : List ℕ) → Lines T num x d d 0 x
-  lines-none x d = record {
-    count = 0;
-    there = omega arith;
-    text = wrote-none d 0 (omega arith);
-    next = refl;
-    within = λ bound h l. l;
-    begun = λ i h. absurd (not-suc-le-zero h);
-  }
+  pub lines-none : (x : ℕ) (d : List ℕ) (at : ℕ) → at ≤ length d → Lines T num x d at d at x
+  lines-none x d at h = record { count = 0; there = omega arith; text = wrote-none d at h; next = refl; within = λ bound b l. l }
 
-module _ {T : Task} {num : Var → ℕ} {x : ℕ} {d e : List ℕ} {k y : ℕ} (s : Lines T num x d e k y) where
-  abbrev Within : ℕ → Type 0
-  Within v = (bound : ℕ) → positions T num ≤ bound → x ≤ bound → v ≤ bound
-
-  lines-more : {b : List ℕ} {j v : ℕ} (c : List ℤ) → k + 80 ≤ length d → clauses-from T num y ≡ c ∷ clauses-from T num v → Wrote e k (lineText c) b j → Within v → Lines T num x d b j v
-  lines-more {b} {j} c room f w i =
-      let (p, q) = take-next (s .count) (clauses-from T num x) (sym (s .next) ∙ f) in
+module _ {T : Task} {num : Var → ℕ} {x : ℕ} {d : List ℕ} {at : ℕ} {e : List ℕ} {k y : ℕ} (s : Lines T num x d at e k y) where
+  pub lines-then : {b : List ℕ} {j v : ℕ} → Lines T num y e k b j v → Lines T num x d at b j v
+  lines-then {b} {j} {v} t =
+      let cs = clauses-from T num x in
       record {
-        count = s .count + 1;
-        there = omega (arith, ap length (sym (s .next) ∙ f), length-drop (s .count) (clauses-from T num x));
-        text = subst (λ t. Wrote d 0 t b j) (sym (lines-snoc (take (s .count) (clauses-from T num x)) c) ∙ ap linesText (sym p)) (wrote-then (s .text) w);
-        next = sym q;
-        within = i;
-        begun = below-more _ _ (s .begun) (omega (arith, s .text .next));
+        count = s .count + t .count;
+        there = omega (arith, s .there, t .there, ap length (s .next) ∙ length-drop (s .count) cs);
+        text = subst (λ l. Wrote d at l b j)
+            (ap (λ r. linesText (take (s .count) cs) ++ linesText (take (t .count) r)) (s .next) ∙ sym (lines-append (take (s .count) cs) (take (t .count) (drop (s .count) cs)))
+            ∙ ap linesText (sym (take-add (s .count) (t .count) cs)))
+            (wrote-then (s .text) (t .text));
+        next = t .next ∙ ap (drop (t .count)) (s .next) ∙ drop-drop (t .count) (s .count) cs;
+        within = λ bound h l. t .within bound h (s .within bound h l);
+      }
+
+  pub lines-room : k ≤ length e
+  lines-room = omega (arith, s .text .room, wrote-length (s .text))
+
+  -- where nothing more is written
+  pub lines-filled : {b : List ℕ} {j v : ℕ} → Further T num y e k b j v → j ≡ k → Lines T num x d at b k v × ((clauses-from T num v ≡ []) ⊎ Longer T num (length d) k v)
+  lines-filled {b} {j} {v} f q =
+      (subst (λ i. Lines T num x d at b i v) q (lines-then (f .lines)), subst (λ size. (clauses-from T num v ≡ []) ⊎ Longer T num size k v) (wrote-length (s .text)) (f .stop q))
+
+-- ---- the next line, as one line more
+
+module _ (T : Task) (num : Var → ℕ) (x : ℕ) where
+  first-here : {f : Found} → next-clause T num x ≡ f → First T num (clauses-from T num x) f
+  first-here q = subst (First T num (clauses-from T num x)) q (next-first T num x)
+
+  within-here : {f : Found} → next-clause T num x ≡ f → (bound : ℕ) → positions T num ≤ bound → x ≤ bound → position-of T num f ≤ bound
+  within-here q bound h l = subst (λ f. position-of T num f ≤ bound) q (next-le T num bound x h l)
+
+  one-line : {d : List ℕ} {at : ℕ} {e : List ℕ} {k y : ℕ} (c : List ℤ) → next-clause T num x ≡ handed c y → Wrote d at (lineText c) e k → Lines T num x d at e k y
+  one-line {d} {at} {e} {k} {y} c q w =
+      let f = first-here q in
+      record {
+        count = 1;
+        there = omega (arith, ap length f);
+        text = subst (λ t. Wrote d at t e k) (sym (append-nil (lineText c)) ∙ ap (λ cs. linesText (take 1 cs)) (sym f)) w;
+        next = ap (drop 1) (sym f);
+        within = within-here q;
       }
 
   -- the same clauses follow from another position
-  lines-moved : (v : ℕ) → clauses-from T num v ≡ clauses-from T num y → Within v → Lines T num x d e k v
-  lines-moved v f i = record { count = s .count; there = s .there; text = s .text; next = f ∙ s .next; within = i; begun = s .begun }
+  no-line : (d : List ℕ) (at : ℕ) {y : ℕ} → at ≤ length d → next-clause T num x ≡ ended y → Lines T num x d at d at y
+  no-line d at h q =
+      let (now-none, then-none) = first-here q in
+      record { count = 0; there = omega arith; text = wrote-none d at h; next = then-none ∙ sym now-none; within = within-here q }
 
-  first-here : {f : Found} → next-clause T num y ≡ f → First T num (clauses-from T num y) f
-  first-here q = subst (First T num (clauses-from T num y)) q (next-first T num y)
+  pub line-further : {d : List ℕ} {at : ℕ} {e : List ℕ} {r : Filled} → at ≤ length d → LineNext (next-clause T num x) d at e r
+      → Further T num x d at e (r .end) (r .position)
+  line-further h (written c q w) = record { lines = one-line c q w; stop = λ n. absurd (omega (arith, w .next, line-some c)) }
+  line-further {d} {at} {r} h (nothing q w n) =
+      record {
+        lines = subst₂ (λ e k. Lines T num x d at e k (r .position)) (sym w) (sym n) (no-line d at h q);
+        stop = λ i. inl (first-here q .1);
+      }
 
-  within-here : {f : Found} → next-clause T num y ≡ f → Within (position-of T num f)
-  within-here q bound h l = subst (λ f. position-of T num f ≤ bound) q (next-le T num bound y h (s .within bound h l))
-
-  module _ {b : List ℕ} {r : Filled} (l : LineNext (next-clause T num y) e k b r) where
-    pub filling-more : k + 80 ≤ length d → r .end ≢ k → Lines T num x d b (r .end) (r .position)
-    filling-more room n = go l
-      where
-        go : LineNext (next-clause T num y) e k b r → Lines T num x d b (r .end) (r .position)
-        go (written c q w) = lines-more c room (first-here q) w (within-here q)
-        go (nothing q w h) = absurd (n h)
-
-    pub filling-further : r .end ≢ k → k < r .end
-    filling-further n = go l
-      where
-        go : LineNext (next-clause T num y) e k b r → k < r .end
-        go (written c q w) = omega (arith, w .next, line-some c)
-        go (nothing q w h) = absurd (n h)
-
-    pub filling-ended : r .end ≡ k → Filling T num x d b k (r .position)
-    filling-ended n = go l
-      where
-        go : LineNext (next-clause T num y) e k b r → Filling T num x d b k (r .position)
-        go (written c q w) = absurd (omega (arith, w .next, line-some c))
-        go (nothing q w h) =
-            let (now-none, then-none) = first-here q in
-            record { lines = subst (λ o. Lines T num x d o k (r .position)) (sym w) (lines-moved (r .position) (then-none ∙ sym now-none) (within-here q)); stop = inl then-none }
-
-  pub filling-full : length d < k + 80 → Filling T num x d e k y
-  filling-full h = record { lines = s; stop = inr h }
+  pub room-further : {d : List ℕ} {at : ℕ} {e : List ℕ} {r : Filled} → at ≤ length d → LineIfRoom (next-clause T num x) x d at e r
+      → Further T num x d at e (r .end) (r .position)
+  room-further h (fits l) = line-further h l
+  room-further {d} {at} {r} h (long c y q l w n p) =
+      subst₂ (λ e k. Further T num x d at e k (r .position)) (sym w) (sym n)
+      (subst (λ v. Further T num x d at d at v) (sym p)
+      (record { lines = lines-none T num x d at h; stop = λ i. inr (record { clause = c; others = clauses-from T num y; next = first-here q; long = l }) }))

@@ -1,4 +1,5 @@
 pub mod Signs
 pub mod Spelling
+pub mod Copies
 pub mod Batches
 pub mod Answering

@@ -1,29 +1,22 @@
 -- DEFINITIONS: a list of calls for batches of lines, and what is said of it.
 use mathlib.Core.Path.{_≡_}
 use mathlib.Core.List.{List, [], _∷_, _++_, List·Memᴰ}
-use Prim.Native.Nat.{ℕ, _<_}
-use lib.ListN.{length, take}
+use Prim.Native.Nat.{ℕ}
+use lib.ListN.{take}
 use Rattle.automaton.specs.declared.Automaton.{Automaton}
-use Rattle.automaton.specs.declared.refusal.Refusal.{Refusal}
 use Rattle.automaton.specs.View.{view}
 use Rattle.encoding.specs.Clauses.{base-file}
 use Rattle.clauses.specs.declared.Answer.{Answer}
 use Rattle.clauses.specs.declared.Answer.the-variants.{Written, Ended, Refused}
-use Rattle.clauses.specs.declared.Handed.{Handed}
+use Rattle.clauses.specs.Calls.{CallOn, CallsOn, RefusedShort}
 use Rattle.clause_text.specs.Text.{linesText}
 use Rattle.clause_text.specs.Answers.{BatchStepped}
 
--- the position handed in, the buffer before and after, and what came back
-pub record BatchCall : Type 0 where
-  pub from : ℕ
-  pub before : List ℕ
-  pub after : List ℕ
-  pub result : Handed
+abbrev pub BatchCall : Type 0
+BatchCall = CallOn ℕ
 
--- calls from position x on, each at the position that the one before it left
 abbrev pub BatchCalls : (a : Automaton) (n m x : ℕ) → List BatchCall → Type 0
-BatchCalls a n m x [] = Unit {0}
-BatchCalls a n m x (c ∷ cs) = (c .from ≡ x) × BatchStepped a n m x (c .before) (c .after) (c .result) × BatchCalls a n m (c .result .position) cs
+BatchCalls a n m = CallsOn (BatchStepped a n m)
 
 -- the bytes that are written, call after call
 abbrev pub bytes : Answer → List ℕ → List ℕ
@@ -42,6 +35,4 @@ pub record LinesOut (a : Automaton) (n m : ℕ) (cs : List BatchCall) : Type 0 w
   pub begins : all-bytes cs ++ left ≡ linesText (base-file (view a) n m)
   -- and all of them, once a call says "ended"
   pub whole : (c : BatchCall) → List·Memᴰ c cs → c .result .answer ≡ Ended → all-bytes cs ≡ linesText (base-file (view a) n m)
-  -- a call is refused for its buffer only, and keeps the position and the buffer
-  pub refused : (c : BatchCall) → List·Memᴰ c cs → (f : Refusal) → c .result .answer ≡ Refused f
-      → (length (c .before) < 80) × (c .result .position ≡ c .from) × (c .after ≡ c .before)
+  pub refused : RefusedShort 80 cs

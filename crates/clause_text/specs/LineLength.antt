@@ -1,5 +1,5 @@
 -- 80 BYTES SUFFICE for a line: a clause has at most 8 literals, and a literal at most 7 digits and a minus.
-use mathlib.Core.Path.{_≡_, refl, ap, _∙_}
+use mathlib.Core.Path.{_≡_, refl, sym, ap, _∙_, subst}
 use mathlib.Core.Logic.{⊎-elim}
 use mathlib.Core.List.{List, [], _∷_, List·Memᴰ, List·Memᴰ·head, List·Memᴰ·tail}
 use Prim.Native.Nat.{ℕ, zero, suc, _+_, _*_, _^_, _≤_, _<_}
@@ -10,6 +10,9 @@ use lib.ListN.{length, length-append}
 use lib.Pow.{pow-mono}
 use Rattle.meaning.specs.Automata.{Aut, WellFormed}
 use Rattle.meaning.specs.Tests.{all-same}
+use Rattle.automaton.specs.declared.Automaton.{Automaton}
+use Rattle.automaton.specs.Value.{Valid}
+use Rattle.automaton.specs.View.{view, view-formed}
 use Rattle.encoding.specs.Variables.{Task, Var, base, base-number, base-variables}
 use Rattle.encoding.specs.Clauses.{not-marks, totality, initial, successor, extension, closure, base-file}
 use Rattle.encoding.specs.Loops.{each-length}
@@ -18,10 +21,11 @@ use Rattle.encoding.specs.Literals.{IsLiteral, literals}
 use Rattle.encoding.specs.Base.{base-numbering, base-well-posed}
 use Rattle.decimal.specs.Digits.{decimal-at-most}
 use Rattle.variables.specs.declared.sizes.Sizes.{Sizes}
+use Rattle.variables.specs.Sizes.{Dimensioned}
 use Rattle.variables.specs.Numbers.{numberOf}
 use Rattle.clause_list.specs.Tables.{tabled, taskOf, Tables}
-use Rattle.clause_list.specs.Next.{handed, next-clause}
-use Rattle.clause_list.specs.Following.{found-in-file}
+use Rattle.clause_list.specs.Next.{handed, next-clause, clauses-from}
+use Rattle.clause_list.specs.Following.{from-in-file, found-in-file}
 use Rattle.clause_text.specs.Text.{literalText, lineText}
 
 -- ---- the text of a literal, and of a line
@@ -88,3 +92,10 @@ found-line-le z start destinations marks tables h {c} x e =
     file-line-le (tabled z start destinations marks) (z .candidate .states) (z .candidate .sets)
     (record { start-lt = h; step-lt = tables .step-lt; own-sets = all-same (z .reference .sets) })
     (f .n-some) (f .n-le) (f .m-le) (f .r-le) (f .letters-le) (f .s-le) c (found-in-file (taskOf z start destinations marks) (numberOf z) x e)
+
+-- a line that is left of the file for a reference
+pub left-line-le : {a : Automaton} {n m : ℕ} → Valid a → Dimensioned n m → (y : ℕ) {c : List ℤ} {cs : List (List ℤ)}
+    → clauses-from (base (view a) n m) (base-number (view a) n m) y ≡ c ∷ cs → length (lineText c) ≤ 80
+left-line-le {a} {n} {m} v d y {c} e =
+    file-line-le (view a) n m (view-formed v) (d .n-some) (d .n-le) (d .m-le) (v .states-le) (pow-mono {j = 4} (v .propositions-le)) (v .sets-le) c
+    (from-in-file (base (view a) n m) (base-number (view a) n m) y (subst (List·Memᴰ c) (sym e) (List·Memᴰ·head refl)))

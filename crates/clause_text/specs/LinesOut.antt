@@ -2,41 +2,44 @@
 use mathlib.Core.Path.{_≡_, refl, sym, ap, ap₂, _∙_, subst}
 use mathlib.Core.Logic.{_⊎_, ⊎-elim}
 use mathlib.Core.List.{List, [], _∷_, _++_, append-assoc, List·Memᴰ, List·Memᴰ·cases-cons, List·Memᴰ·not-nil, cons≢nil}
-use Prim.Native.Nat.{ℕ, zero, suc, _+_, _≤_, _<_}
+use Prim.Native.Nat.{ℕ, _≤_}
 use native.Mathlib.Omega.{arith}
 use lib.IntN.{ℤ}
-use lib.ListN.{length, take, drop}
+use lib.ListN.{length, take, drop, take-append-drop}
 use Rattle.automaton.specs.declared.Automaton.{Automaton}
-use Rattle.automaton.specs.declared.refusal.Refusal.{Refusal}
 use Rattle.automaton.specs.Value.{Valid}
 use Rattle.automaton.specs.View.{view}
 use Rattle.encoding.specs.Variables.{base, base-number}
+use Rattle.decimal.specs.Writing.{wrote-front}
 use Rattle.variables.specs.Sizes.{Dimensioned}
 use Rattle.clause_list.specs.Next.{clauses-from}
 use Rattle.clause_list.specs.Following.{from-start}
 use Rattle.clauses.specs.declared.Answer.{Answer}
 use Rattle.clauses.specs.declared.Answer.the-variants.{Written, Ended, Refused}
-use Rattle.clauses.specs.Step.{short, outside, dimensions, last-position}
+use Rattle.clauses.specs.Step.{Accepted, last-position}
 use Rattle.clauses.specs.Range.{positions-le}
-use Rattle.clauses.specs.HandsOut.{wrote-front}
+use Rattle.clauses.specs.Refusals.{turned-down-short, Stays, refused-from}
 use Rattle.clause_text.specs.Text.{lineText, linesText}
+use Rattle.clause_text.specs.LineLength.{left-line-le}
 use Rattle.clause_text.specs.Answers.{BatchAnswers, Batch}
 use Rattle.clause_text.specs.Batches.{BatchCall, BatchCalls, bytes, all-bytes, LinesOut}
 
--- the lines of the first clauses and of the others
-lines-split : (k : ℕ) (cs : List (List ℤ)) → linesText (take k cs) ++ linesText (drop k cs) ≡ linesText cs
-lines-split zero cs = refl
-lines-split (suc k) [] = refl
-lines-split (suc k) (c ∷ cs) = append-assoc (lineText c) (linesText (take k cs)) (linesText (drop k cs)) ∙ ap (λ t. lineText c ++ t) (lines-split k cs)
+-- the lines of clauses and of those after them
+pub lines-append : (bs cs : List (List ℤ)) → linesText (bs ++ cs) ≡ linesText bs ++ linesText cs
+lines-append [] cs = refl
+lines-append (b ∷ bs) cs = ap (λ t. lineText b ++ t) (lines-append bs cs) ∙ sym (append-assoc (lineText b) (linesText bs) (linesText cs))
 
 module _ (a : Automaton) (n m : ℕ) where
+  abbrev rest : ℕ → List (List ℤ)
+  rest = clauses-from (base (view a) n m) (base-number (view a) n m)
+
   abbrev left-from : ℕ → List ℕ
-  left-from x = linesText (clauses-from (base (view a) n m) (base-number (view a) n m) x)
+  left-from x = linesText (rest x)
 
   batch-lines : {x : ℕ} {d e : List ℕ} {k y : ℕ} → Batch a n m x d e k y → take k e ++ left-from y ≡ left-from x
   batch-lines {x} f =
       ap₂ (λ t cs. t ++ linesText cs) (wrote-front (f .lines .text)) (f .lines .next)
-      ∙ lines-split (f .lines .count) (clauses-from (base (view a) n m) (base-number (view a) n m) x)
+      ∙ sym (lines-append (take (f .lines .count) (rest x)) (drop (f .lines .count) (rest x))) ∙ ap linesText (take-append-drop (f .lines .count) (rest x))
 
   -- one call: what it writes, and what is left after it
   one-call : (x : ℕ) (b : Answer) (y : ℕ) (d e : List ℕ) → BatchAnswers a n m x d e b y → bytes b e ++ left-from y ≡ left-from x
@@ -48,11 +51,12 @@ module _ (a : Automaton) (n m : ℕ) where
   ended-left : (x : ℕ) (b : Answer) (y : ℕ) (d e : List ℕ) → BatchAnswers a n m x d e b y → b ≡ Ended → left-from x ≡ []
   ended-left x b y d e s q = go (subst (λ b. BatchAnswers a n m x d e b y) q s)
     where
-      none : Batch a n m x d e 0 y → 80 ≤ length d → left-from y ≡ []
-      none f room = ⊎-elim (λ g. ap linesText g) (λ g. absurd (omega arith)) (f .stop)
+      -- a line has at most 80 bytes, and so many there are
+      none : Accepted 80 (length d) a n m x → Batch a n m x d e 0 y → left-from y ≡ []
+      none ok f = ⊎-elim (λ g. ap linesText g) (λ g. absurd (omega (arith, ok .room, g .long, left-line-le (ok .valid) (ok .dimensioned) y (g .next)))) (f .stop)
 
       go : BatchAnswers a n m x d e Ended y → left-from x ≡ []
-      go (ok, f) = sym (one-call x Ended y d e (ok, f)) ∙ none f (ok .room)
+      go (ok, f) = sym (one-call x Ended y d e (ok, f)) ∙ none ok f
 
   abbrev after-all : ℕ → List BatchCall → ℕ
   after-all x [] = x
@@ -81,32 +85,11 @@ module _ (a : Automaton) (n m : ℕ) where
       ∙ one-call x (b .result .answer) (b .result .position) (b .before) (b .after) s)
       (List·Memᴰ·cases-cons j)
 
-  module _ (v : Valid a) (i : Dimensioned n m) where
-    -- a call at a position in its range is refused for its buffer only
-    refused-short : (x : ℕ) (d e : List ℕ) (b : Answer) (y : ℕ) → x ≤ last-position → BatchAnswers a n m x d e b y → (f : Refusal) → b ≡ Refused f
-        → (length d < 80) × (y ≡ x) × (e ≡ d)
-    refused-short x d e b y h s f q = go f (subst (λ b. BatchAnswers a n m x d e b y) q s)
-      where
-        go : (f : Refusal) → BatchAnswers a n m x d e (Refused f) y → (length d < 80) × (y ≡ x) × (e ≡ d)
-        go f (short l, p, w) = (l, p, w)
-        go f (outside r l, p, w) = absurd (l (v, h))
-        go f (dimensions r u l k, p, w) = absurd (k i)
-
-    -- and leaves a position in its range
-    position-le : (x : ℕ) (d e : List ℕ) (b : Answer) (y : ℕ) → x ≤ last-position → BatchAnswers a n m x d e b y → y ≤ last-position
-    position-le x d e (Written k) y h (ok, (f, some)) = f .lines .within last-position (positions-le v i) h
-    position-le x d e Ended y h (ok, f) = f .lines .within last-position (positions-le v i) h
-    position-le x d e (Refused f) y h (t, p, w) = subst (λ k. k ≤ last-position) (sym p) h
-
-    refused-from : (x : ℕ) (cs : List BatchCall) → x ≤ last-position → BatchCalls a n m x cs → (c : BatchCall) → List·Memᴰ c cs → (f : Refusal)
-        → c .result .answer ≡ Refused f → (length (c .before) < 80) × (c .result .position ≡ c .from) × (c .after ≡ c .before)
-    refused-from x [] h k c j f q = absurd (List·Memᴰ·not-nil j)
-    refused-from x (b ∷ bs) h (e, s, k) c j f q =
-        ⊎-elim
-        (λ g. subst (λ c. c .result .answer ≡ Refused f → (length (c .before) < 80) × (c .result .position ≡ c .from) × (c .after ≡ c .before)) (sym g)
-        (λ q. let (l, p, w) = refused-short x (b .before) (b .after) (b .result .answer) (b .result .position) h s f q in (l, p ∙ sym e, w)) q)
-        (λ j. refused-from (b .result .position) bs (position-le x (b .before) (b .after) (b .result .answer) (b .result .position) h s) k c j f q)
-        (List·Memᴰ·cases-cons j)
+  -- one call, for the lemma on refusals
+  stays : Valid a → Dimensioned n m → (x : ℕ) (d e : List ℕ) (b : Answer) (y : ℕ) → x ≤ last-position → BatchAnswers a n m x d e b y → Stays 80 x d e b y
+  stays v i x d e (Written k) y h (ok, (f, some)) = f .lines .within last-position (positions-le v i) h
+  stays v i x d e Ended y h (ok, f) = f .lines .within last-position (positions-le v i) h
+  stays v i x d e (Refused f) y h (t, p, w) = (turned-down-short v i h t, p, w)
 
 pub lines-out : {a : Automaton} {n m : ℕ} → Valid a → Dimensioned n m → (cs : List BatchCall) → BatchCalls a n m 0 cs → LinesOut a n m cs
 lines-out {a} {n} {m} v i cs k =
@@ -115,5 +98,5 @@ lines-out {a} {n} {m} v i cs k =
       left = linesText (clauses-from (base (view a) n m) (base-number (view a) n m) (after-all a n m 0 cs));
       begins = calls-lines a n m 0 cs k ∙ start;
       whole = λ c j q. calls-whole a n m 0 cs k c j q ∙ start;
-      refused = refused-from a n m v i 0 cs (omega arith) k;
+      refused = refused-from (λ x d e r. stays a n m v i x d e (r .answer) (r .position)) 0 cs (omega arith) k;
     }

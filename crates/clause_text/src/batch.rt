@@ -1,4 +1,5 @@
 // The next line, and as many as fit. The reference has been tested: nothing here looks at it again.
+use crate::copying::copy;
 use crate::writing::write_line;
 use automaton::Automaton;
 use automaton::states::ReferenceState;
@@ -12,7 +13,7 @@ ghost use Rattle.clause_list.specs.Tables.{taskOf, Tables};
 ghost use Rattle.clause_list.specs.Position.{ExtentOf};
 ghost use Rattle.clause_list.specs.Next.{«next-clause»};
 ghost use Rattle.clause_text.specs.Filling.{Filling};
-ghost use Rattle.clause_text.specs.LineNext.{LineNext};
+ghost use Rattle.clause_text.specs.LineNext.{LineNext, LineIfRoom, Further};
 
 // Where the text ends, and the position to go on from.
 pub struct Filled {
@@ -50,7 +51,37 @@ pub fn next_line(
     }
 }
 
-// Writes line after line from the start of the buffer, while there are 80 bytes for one more.
+// The same where less may be left than a line may want: a line that does not fit is not written, and the position stays.
+pub fn next_line_if_room(
+    z: Sizes,
+    g: Extent,
+    start: ReferenceState,
+    destinations: &[u8; Automaton::CELLS],
+    marks: &[u8; Automaton::CELLS],
+    from: usize,
+    text: &mut [u8],
+    at: usize,
+) -> Filled
+    requires { ⌜ Tables z (now destinations) (now marks) × (start .0 < z .reference .states) ⌝ }
+    requires { ⌜ ExtentOf z g × (at ≤ length (now text)) ⌝ }
+    ensures { λ r. ⌜ LineIfRoom («next-clause» (taskOf z (start .0) (now (destinations .entry)) (now (marks .entry))) (numberOf z) from) from (now (text .entry)) at (now (text .exit)) r ⌝ }
+{
+    let mut line = [0u8; 80];
+    let next = next_line(z, g, start, destinations, marks, from, &mut line, 0);
+    let size = next.end;
+    if text.len() - at < size {
+        return Filled {
+            end: at,
+            position: from,
+        };
+    }
+    Filled {
+        end: copy(&line, 0, size, text, at),
+        position: next.position,
+    }
+}
+
+// Writes line after line from the start of the buffer, as many as fit.
 pub fn fill(
     z: Sizes,
     g: Extent,
@@ -66,8 +97,8 @@ pub fn fill(
 {
     let mut x = from;
     let mut at: usize = 0;
-    while text.len() - at >= 80 {
-        let next = next_line(z, g, start, destinations, marks, x, text, at);
+    loop {
+        let next = more_lines(z, g, start, destinations, marks, x, text, at);
         x = next.position;
         if next.end == at {
             return Filled {
@@ -77,8 +108,25 @@ pub fn fill(
         }
         at = next.end;
     }
-    Filled {
-        end: at,
-        position: x,
+}
+
+// Writes one line more, where there is one and it fits; it is written straight away where 80 bytes are left.
+fn more_lines(
+    z: Sizes,
+    g: Extent,
+    start: ReferenceState,
+    destinations: &[u8; Automaton::CELLS],
+    marks: &[u8; Automaton::CELLS],
+    from: usize,
+    text: &mut [u8],
+    at: usize,
+) -> Filled
+    requires { ⌜ Tables z (now destinations) (now marks) × (start .0 < z .reference .states) ⌝ }
+    requires { ⌜ ExtentOf z g × (at ≤ length (now text)) ⌝ }
+    ensures { λ r. ⌜ Further (taskOf z (start .0) (now (destinations .entry)) (now (marks .entry))) (numberOf z) from (now (text .entry)) at (now (text .exit)) (r .end) (r .position) ⌝ }
+{
+    if text.len() - at < 80 {
+        return next_line_if_room(z, g, start, destinations, marks, from, text, at);
     }
+    next_line(z, g, start, destinations, marks, from, text, at)
 }

@@ -18,6 +18,7 @@ ghost use Rattle.clause_list.specs.Tables.{Measured};
 ghost use Rattle.clause_text.specs.Answers.{LineStepped, LineFound, BatchStepped, BatchFound};
 
 mod batch;
+mod copying;
 mod writing;
 
 // The bytes that a clause line may want.
@@ -41,7 +42,7 @@ pub fn line(reference: Automaton, n: usize, m: usize, position: u64, text: &mut 
     }
 }
 
-// Writes the lines of the next clauses, as long as there are 80 bytes for one more.
+// Writes the lines of the next clauses, as many as fit whole.
 pub fn lines(reference: Automaton, n: usize, m: usize, position: u64, text: &mut [u8]) -> Handed
     ensures { λ r. ⌜ BatchStepped reference n m position (now (text .entry)) (now (text .exit)) r ⌝ }
 {

@@ -15,17 +15,31 @@ use Rattle.clauses.specs.declared.Answer.the-variants.{Written, Ended, R
 use Rattle.clauses.specs.declared.Handed.{Handed}
 use Rattle.clauses.specs.Step.{Stepped}
 
--- the position handed in, the buffer before and after, and what came back
-pub record Call : Type 0 where
+-- of a function that writes A's: the position handed in, the buffer before and after, and what came back
+pub record CallOn (A : Type 0) : Type 0 where
   pub from : ℕ
-  pub before : List ℤ
-  pub after : List ℤ
+  pub before : List A
+  pub after : List A
   pub result : Handed
 
--- calls from position x on, each at the position that the one before it left
+-- calls from position x on, each at the position that the one before it left; `Says` is what one call says of them
+abbrev pub CallsOn : {A : Type 0} (Says : (x : ℕ) (d e : List A) → Handed → Type 0) (x : ℕ) → List (CallOn A) → Type 0
+CallsOn Says x [] = Unit {0}
+CallsOn Says x (c ∷ cs) = (c .from ≡ x) × Says x (c .before) (c .after) (c .result) × CallsOn Says (c .result .position) cs
+
+-- a call is refused for its buffer only, which has less than the needed places, and keeps the position and the buffer
+abbrev pub RefusedShort : {A : Type 0} (needed : ℕ) → List (CallOn A) → Type 0
+RefusedShort {A} needed cs =
+    (c : CallOn A) → List·Memᴰ c cs → (f : Refusal) → c .result .answer ≡ Refused f
+    → (length (c .before) < needed) × (c .result .position ≡ c .from) × (c .after ≡ c .before)
+
+-- ---- of the clause step
+
+abbrev pub Call : Type 0
+Call = CallOn ℤ
+
 abbrev pub Calls : (a : Automaton) (n m x : ℕ) → List Call → Type 0
-Calls a n m x [] = Unit {0}
-Calls a n m x (c ∷ cs) = (c .from ≡ x) × Stepped a n m x (c .before) (c .after) (c .result) × Calls a n m (c .result .position) cs
+Calls a n m = CallsOn (Stepped a n m)
 
 -- what a call that is not refused says: the literals at the start of the buffer, or none where the list has ended
 abbrev pub said : Answer → List ℤ → List (Option (List ℤ))
@@ -46,6 +60,4 @@ in-order (c ∷ cs) (suc k) = some c ∷ in-order cs k
 -- what the clause step does over a whole list of calls
 pub record HandsOut (a : Automaton) (n m : ℕ) (cs : List Call) : Type 0 where
   pub answers : all-said cs ≡ in-order (base-file (view a) n m) (length (all-said cs))
-  -- a call is refused for its buffer only, and keeps the position and the buffer
-  pub refused : (c : Call) → List·Memᴰ c cs → (f : Refusal) → c .result .answer ≡ Refused f
-      → (length (c .before) < 8) × (c .result .position ≡ c .from) × (c .after ≡ c .before)
+  pub refused : RefusedShort 8 cs

@@ -2,6 +2,7 @@ pub mod Step
 pub mod Shared
 pub mod Range
 pub mod Calls
+pub mod Refusals
 pub mod HandsOut
 pub mod Sums
 pub mod ClosureCount

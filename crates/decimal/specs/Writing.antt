@@ -1,4 +1,4 @@
--- Laws of writing: nothing, one element, one list after another, into a part of a buffer; the length stays.
+-- Laws of writing: nothing, one element, one list after another, into a part of a buffer; the length stays; what is read back.
 use mathlib.Core.Path.{_≡_, refl, sym, ap, ap₂, _∙_}
 use mathlib.Core.List.{List, [], _∷_, _++_, append-assoc, append-nil}
 use Prim.Native.Nat.{ℕ, _+_, _-_, _≤_, _<_}
@@ -35,6 +35,10 @@ module _ {A : Type 0} where
         is = q .is ∙ ap₂ (λ a b. a ++ (w ++ b)) before rest ∙ append-assoc (take at d) v (w ++ drop s d)
             ∙ ap (λ l. take at d ++ l) (sym (append-assoc v w (drop s d)));
       }
+
+  -- what was written at the start of a buffer is read there
+  pub wrote-front : {d w e : List A} {r : ℕ} → Wrote d 0 w e r → take r e ≡ w
+  wrote-front {d} {w} {r} p = ap (take r) (p .is) ∙ take-at w (drop r d) r (omega (arith, p .next))
 
   -- what was written at the start of the part `&mut d[a..]` stands in d from a on
   pub wrote-part : (d : List A) (a k : ℕ) {w p : List A} {r : ℕ} → a ≤ length d → k ≡ length d - a → Wrote (take k (drop a d)) 0 w p r
