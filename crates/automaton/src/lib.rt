@@ -6,7 +6,7 @@ ghost use mathlib.Core.Bool.{true};
 ghost use Rattle.automaton.specs.Tests.{countsFit, fits, tablesFit};
 ghost use Rattle.automaton.specs.Value.{Valid, empty};
 
-mod names;
+pub mod names;
 pub mod powers;
 pub mod refusal;
 pub mod states;

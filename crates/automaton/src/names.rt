@@ -71,7 +71,7 @@ fn byte_fits(i: usize, byte: u8, length: u8) -> bool
 }
 
 // 32 to 126, without quote and backslash.
-fn printable(byte: u8) -> bool
+pub fn printable(byte: u8) -> bool
     ensures { λ r. ⌜ r ≡ printable byte ⌝ }
 {
     if byte < 32 {

@@ -5,7 +5,6 @@ use mathlib.Core.Bool.{Bool, true, false, not, true≢false}
 use mathlib.Core.List.{List, _++_}
 use Prim.Native.Nat.{ℕ, _≤_, _<_}
 use native.Mathlib.Omega.{arith}
-use borrow.Author.Tests.{not-true, not-false}
 use lib.ListN.{length, drop}
 use Rattle.meaning.specs.Decision.{distinguished}
 use Rattle.automaton.specs.declared.Automaton.{Automaton}
@@ -17,13 +16,6 @@ use Rattle.compare.specs.declared.Comparison.{Comparison}
 use Rattle.compare.specs.declared.Comparison.the-variants.{Refused}
 use Rattle.compare.specs.Compared.{Compared}
 use Rattle.compare.specs.Searched.{Ready, Searched, answered}
-
--- what a test that is `true` iff P says
-pub fails-not : {r : Bool} {P : Type 0} → (r ≡ true) ↔ P → not r ≡ true → ¬ P
-fails-not e t p = true≢false (sym (e .1 p) ∙ not-true _ t)
-
-pub passes-so : {r : Bool} {P : Type 0} → (r ≡ true) ↔ P → not r ≡ false → P
-passes-so e t = e .0 (not-false _ t)
 
 -- refusals: both buffers as they were
 module _ (a b : Automaton) (p l : List ℕ) where

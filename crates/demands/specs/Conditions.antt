@@ -2,6 +2,7 @@
 -- right, then 11, 14, 12", and what its answers return: a refusal's number and two values, or none.
 use mathlib.Core.Path.{_≡_}
 use mathlib.Core.Logic.{_≢_}
+use mathlib.Core.Bool.{false}
 use mathlib.Core.List.{List, [], _∷_, _++_}
 use mathlib.Core.Option.{Option, none, some}
 use Prim.Native.Nat.{ℕ, _≤_}
@@ -19,6 +20,8 @@ use Rattle.hoa_text.specs.Grammar as hoa
 use Rattle.hoa_text.specs.Grammar.{Result}
 use Rattle.hoa_text.specs.Reading.{reading}
 use Rattle.hoa_text.specs.Tokens.{tokens}
+use Rattle.hoa_read.specs.declared.Answer as reader
+use Rattle.hoa_read.specs.declared.Answer.the-variants as reading-answer
 use Rattle.hoa_write.specs.declared.Written.{Written}
 use Rattle.hoa_write.specs.declared.Written.the-variants as writer
 use Rattle.variables.specs.Sizes.{Dimensioned}
@@ -40,6 +43,11 @@ use Rattle.decode.specs.declared.Answer.the-variants as decoding
 use Rattle.decode.specs.declared.Decoded.{Decoded}
 use Rattle.decode.specs.Answers.{whole, said, found, without}
 use Rattle.decode.specs.Table.{decodedValue, AllStep, LowestWithout}
+use Rattle.search.specs.declared.Search.{Search}
+use Rattle.search.specs.declared.Answer as search
+use Rattle.search.specs.declared.Answer.the-variants as searching
+use Rattle.search.specs.declared.Reply as state-reply
+use Rattle.search.specs.Replies as state
 use Rattle.demands.specs.Judgement.{Condition, asks, TurnedDown, Accepted, Judged}
 
 -- ---- the reader of HOA text
@@ -55,6 +63,10 @@ no-fault fault = record { met = fault ≡ none; otherwise = fault-code fault }
 abbrev pub hoa-said : Result Automaton → Option Code
 hoa-said (hoa.gives a) = none
 hoa-said (hoa.refuses f) = some (codeOf f)
+
+abbrev pub reader-said : reader.Answer → Option Code
+reader-said reading-answer.Read = none
+reader-said (reading-answer.Refused f) = some (codeOf f)
 
 -- 2: "text over 65,536 bytes (offset 65,536, before reading)"; then left to right, as `hoa_text` defines it: 1 to 4, 5 for a body twice, 6; and after the
 -- whole text 5 and 7
@@ -183,3 +195,35 @@ pub record JudgesDecoding (a : Automaton) (n m : ℕ) (r : Reader) (prefix prefi
   pub empty : (c : Code) → decoder-said (answer .answer) ≡ some c → c .number ≢ 12 → (x ≡ []) × (y ≡ [])
   pub accepted : decoder-said (answer .answer) ≡ none
       → Answers (verdict-of a n m r) (decodedValue a n m (stated-by a n m r)) answer × (prefix-after ≡ prefix) × (loop-after ≡ loop)
+
+-- ---- the search: "A finished search, after 13 and 4, says so", and asks nothing more of a table
+
+abbrev pub search-said : search.Answer → Option Code
+search-said searching.Taken = none
+search-said searching.Finished = none
+search-said (searching.Refused f) = some (codeOf f)
+
+abbrev pub to-start : (a : Automaton) → List Condition
+to-start a = asks (Valid a) 4 0 0 ∷ []
+
+abbrev pub to-go-on : (s : Search) → List Condition
+to-go-on s = asks (state.InRange s) 4 0 0 ∷ []
+
+abbrev pub to-find : (s : Search) (table : Automaton) (prefix loop p l : ℕ) → List Condition
+to-find s table prefix loop p l =
+    asks (256 ≤ prefix) 13 256 prefix
+    ∷ asks (1280 ≤ loop) 13 1280 loop
+    ∷ asks (state.InRange s × Valid table) 4 0 0
+    ∷ asks (s .finished ≡ false → state.AskedFor s table) 8 (table .states) (table .sets)
+    ∷ asks (s .finished ≡ false → table .propositions ≡ s .reference .propositions) 14 (table .propositions) (s .reference .propositions)
+    ∷ asks (s .finished ≡ false → Agree (view table) (view (s .reference))) 12 p l
+    ∷ []
+
+-- A found table is judged by its conditions: "a refused one changes nothing". x and y are 12's word, and empty on every other answer.
+pub record JudgesFinding (s : Search) (table : Automaton) (prefix prefix-after loop loop-after : List ℕ) (r : state-reply.Reply) : Type 0 where
+  pub x : List ℕ
+  pub y : List ℕ
+  pub judged : Judged (to-find s table (length prefix) (length loop) (length x) (length y)) (search-said (r .answer))
+      ((r .search ≡ s) × Begins x prefix prefix-after × Begins y loop loop-after)
+  pub empty : (c : Code) → search-said (r .answer) ≡ some c → c .number ≢ 12 → (x ≡ []) × (y ≡ [])
+  pub accepted : search-said (r .answer) ≡ none → (prefix-after ≡ prefix) × (loop-after ≡ loop)

@@ -2,7 +2,7 @@
 -- else is accepted; every call ends. The last is proved of each function by its check: no function is accepted that does not return.
 --
 -- One field for each public function. It speaks of every outcome that the function's promise allows; `Conditions` has what each asks, in order.
-use mathlib.Core.Path.{_≡_, ap, _∙_, subst}
+use mathlib.Core.Path.{_≡_, ap, _∙_}
 use mathlib.Core.Logic.{_⊎_}
 use mathlib.Core.List.{List}
 use mathlib.Core.Option.{some}
@@ -14,11 +14,12 @@ use Rattle.automaton.specs.declared.refusal.Code.{Code}
 use Rattle.automaton.specs.Value.{Valid}
 use Rattle.compare.specs.declared.Comparison.{Comparison}
 use Rattle.compare.specs.Compared.{Compared}
-use Rattle.hoa_text.specs.Accepted.{accepted-valid}
-use Rattle.hoa_text.specs.Grammar.{gives}
 use Rattle.hoa_text.specs.ReadBack.{read-back}
 use Rattle.hoa_text.specs.Reading.{read}
 use Rattle.hoa_text.specs.Written.{text}
+use Rattle.hoa_read.specs.declared.Reading.{Reading}
+use Rattle.hoa_read.specs.declared.Answer.the-variants.{Read}
+use Rattle.hoa_read.specs.Told as hoa
 use Rattle.hoa_write.specs.declared.Written.{Written}
 use Rattle.hoa_write.specs.Answer.{Answered}
 use Rattle.variables.specs.Sizes.{Dimensioned}
@@ -36,24 +37,29 @@ use Rattle.solution.specs.Pieces.{joined}
 use Rattle.decode.specs.declared.Decoded.{Decoded}
 use Rattle.decode.specs.Answers.{Decodes}
 use Rattle.decode.specs.Texts.{OfText, text-answer}
+use Rattle.search.specs.declared.Search.{Search}
+use Rattle.search.specs.declared.Reply as search
+use Rattle.search.specs.Rule as rule
+use Rattle.search.specs.Replies.{Started, Told, Found}
 use Rattle.demands.specs.File.{last-variable, steps-and-marks}
 use Rattle.demands.specs.Judgement.{Judged}
-use Rattle.demands.specs.Conditions.{to-read, hoa-said, to-write, writer-said, JudgesComparison, to-count, header-said, to-hand-out, step-said, solution-said, outcome-said, JudgesReading, JudgesDecoding}
-use Rattle.demands.specs.HoaJudged.{hoa-judged, writer-judged}
+use Rattle.demands.specs.Conditions.{to-read, reader-said, to-write, writer-said, JudgesComparison, to-count, header-said, to-hand-out, step-said, solution-said, outcome-said, JudgesReading, JudgesDecoding, search-said, to-start, to-go-on, JudgesFinding}
+use Rattle.demands.specs.HoaJudged.{reader-judged, reader-valid, writer-judged}
 use Rattle.demands.specs.ComparisonJudged.{comparison-judged}
 use Rattle.demands.specs.ClausesJudged.{header-judged, step-judged, line-judged, lines-judged}
 use Rattle.demands.specs.SolverTextJudged.{reading-judged, fault-number, refused-run, refused-end, whole-judged}
 use Rattle.demands.specs.DecoderJudged.{decoder-judged}
+use Rattle.demands.specs.SearchJudged.{start-judged, told-judged, found-judged}
 
 -- ---- the statement
 
--- The reader of HOA text: its answer is what `read` gives.
+-- hoa_read::read
 pub record ReadsHoa : Type 0 where
-  pub judged : (s : List ℕ) → Judged (to-read s) (hoa-said (read s)) (Unit {0})
+  pub judged : (s : List ℕ) (r : Reading) → r ≡ hoa.told (read s) → Judged (to-read s) (reader-said (r .answer)) (Unit {0})
   -- what is accepted lies in "The automaton"
-  pub valid : (s : List ℕ) (a : Automaton) → read s ≡ gives a → Valid a
+  pub valid : (s : List ℕ) (r : Reading) → r ≡ hoa.told (read s) → r .answer ≡ Read → Valid (r .automaton)
   -- and every automaton has a text that is accepted as that automaton: the reader does not always object
-  pub every : (a : Automaton) → Valid a → read (text a) ≡ gives a
+  pub every : (a : Automaton) → Valid a → (r : Reading) → r ≡ hoa.told (read (text a)) → r ≡ record { answer = Read; automaton = a }
 
 -- The reader of solver text: a call with a piece, one for the end, and what is said of whole texts
 pub record ReadsSolverText : Type 0 where
@@ -70,7 +76,7 @@ pub record ReadsSolverText : Type 0 where
   pub number : (r : Reader) (c : Code) → solution-said (told r .answer) ≡ some c → (c .number ≡ 9) ⊎ (c .number ≡ 10)
 
 pub record Demand1 : Type 0 where
-  -- the reader of HOA text
+  -- the reader of HOA text; nothing is lent or carried
   pub hoa : ReadsHoa
   -- hoa_write::write
   pub write : (a : Automaton) (out after : List ℕ) (answer : Written) → Answered a out after answer → Judged (to-write a (length out)) (writer-said answer) (after ≡ out)
@@ -97,11 +103,17 @@ pub record Demand1 : Type 0 where
   pub decode-text : (prefix prefix-after loop loop-after : List ℕ) (answer : Decoded) (a : Automaton) (n m : ℕ) → 256 ≤ length prefix → 1280 ≤ length loop → Valid a
       → Dimensioned n m → (us : List (List ℕ)) (r : Reader) → Reads a n m fresh us r → Decodes prefix prefix-after loop loop-after answer a n m r
       → OfText prefix prefix-after loop loop-after answer a n m (outcome (last-variable a n m) (steps-and-marks a n m) (joined us))
+  -- search::start, Search::none and Search::unknown, Search::found
+  pub start : (a : Automaton) (r : search.Reply) → Started a r → Judged (to-start a) (search-said (r .answer)) (Unit {0})
+  pub none : (s : Search) (r : search.Reply) → Told s (rule.none s) r → Judged (to-go-on s) (search-said (r .answer)) (r .search ≡ s)
+  pub unknown : (s : Search) (r : search.Reply) → Told s (rule.unknown s) r → Judged (to-go-on s) (search-said (r .answer)) (r .search ≡ s)
+  pub found : (s : Search) (table : Automaton) (prefix prefix-after loop loop-after : List ℕ) (r : search.Reply) → Found s table prefix prefix-after loop loop-after r
+      → JudgesFinding s table prefix prefix-after loop loop-after r
 
 -- ---- the proof
 
 reads-hoa : ReadsHoa
-reads-hoa = record { judged = hoa-judged; valid = λ s a e. accepted-valid s e; every = read-back }
+reads-hoa = record { judged = reader-judged; valid = reader-valid; every = λ a v r e. e ∙ ap hoa.told (read-back a v) }
 
 reads-solver-text : ReadsSolverText
 reads-solver-text = record {
@@ -126,6 +138,9 @@ demand-1 = record {
   lines = lines-judged;
   solver-text = reads-solver-text;
   decode = λ prefix prefix-after loop loop-after answer a n m r c. decoder-judged c;
-  decode-text = λ prefix prefix-after loop loop-after answer a n m h g v d us r k c.
-      (text-answer v d h g k c);
+  decode-text = λ prefix prefix-after loop loop-after answer a n m h g v d us r k c. text-answer v d h g k c;
+  start = λ a r k. start-judged k;
+  none = λ s r k. told-judged k;
+  unknown = λ s r k. told-judged k;
+  found = λ s table prefix prefix-after loop loop-after r k. found-judged k;
 }

@@ -14,10 +14,12 @@ use Rattle.automaton.specs.View.{view, view-formed}
 use Rattle.compare.specs.declared.Comparison.{Comparison}
 use Rattle.compare.specs.declared.Comparison.the-variants.{Same}
 use Rattle.compare.specs.Compared.{Compared, Shown}
-use Rattle.hoa_text.specs.Grammar.{gives}
 use Rattle.hoa_text.specs.Reading.{read}
 use Rattle.hoa_text.specs.ReadBack.{read-back}
 use Rattle.hoa_text.specs.Written.{text}
+use Rattle.hoa_read.specs.declared.Reading.{Reading}
+use Rattle.hoa_read.specs.declared.Answer.the-variants.{Read}
+use Rattle.hoa_read.specs.Told.{told}
 use Rattle.hoa_write.specs.declared.Written.{Written}
 use Rattle.hoa_write.specs.declared.Written.the-variants.{Text}
 use Rattle.hoa_write.specs.Answer.{Answered}
@@ -48,7 +50,7 @@ pub record Demand2 : Type 0 where
       → Compares a b prefix prefix-after loop loop-after answer
   -- what the writer leaves at the start of the buffer is a text that the reader reads as the same automaton: the same value
   pub reads-back : (a : Automaton) (out after : List ℕ) (answer : Written) → Answered a out after answer → Valid a → 8192 ≤ length out
-      → (k : ℕ) × (answer ≡ Text k) × (read (take k after) ≡ gives a)
+      → (k : ℕ) × (answer ≡ Text k) × ((r : Reading) → r ≡ told (read (take k after)) → r ≡ record { answer = Read; automaton = a })
 
 -- ---- the proof
 
@@ -76,5 +78,5 @@ demand-2 = record {
   compares = λ a b prefix prefix-after loop loop-after answer c. comparison c;
   reads-back = λ a out after answer w v h.
       let (e, i) = w .written h v in
-      (length (text a), e, ap (λ s. read (take (length (text a)) s)) i ∙ ap read (take-at (text a) (drop (length (text a)) out) (length (text a)) refl) ∙ read-back a v);
+      (length (text a), e, λ r q. q ∙ ap told (ap (λ s. read (take (length (text a)) s)) i ∙ ap read (take-at (text a) (drop (length (text a)) out) (length (text a)) refl) ∙ read-back a v));
 }

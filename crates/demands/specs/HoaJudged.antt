@@ -1,5 +1,5 @@
 -- The reader and the writer of HOA text are judged by their conditions.
-use mathlib.Core.Path.{_≡_, sym, ap, _∙_}
+use mathlib.Core.Path.{_≡_, refl, sym, ap, _∙_, subst}
 use mathlib.Core.Logic.{inl, inr}
 use mathlib.Core.Bool.{Bool, cond}
 use mathlib.Core.List.{List}
@@ -13,18 +13,23 @@ use lib.ListN.{length}
 use Rattle.automaton.specs.declared.Automaton.{Automaton}
 use Rattle.automaton.specs.declared.refusal.Code.{Code}
 use Rattle.automaton.specs.declared.refusal.Refusal.the-variants.{Size}
-use Rattle.hoa_text.specs.Grammar.{refuses}
+use Rattle.automaton.specs.Value.{Valid}
+use Rattle.hoa_text.specs.Accepted.{accepted-valid}
+use Rattle.hoa_text.specs.Grammar.{Result, gives, refuses}
 use Rattle.hoa_text.specs.Reading.{reading, read}
 use Rattle.hoa_text.specs.Tokens.{tokens}
+use Rattle.hoa_read.specs.declared.Reading.{Reading}
+use Rattle.hoa_read.specs.declared.Answer.the-variants.{Read}
+use Rattle.hoa_read.specs.Told.{told}
 use Rattle.hoa_write.specs.declared.Written.{Written}
 use Rattle.hoa_write.specs.Answer.{Answered}
 use Rattle.demands.specs.Judgement.{TurnedDown, Judged}
-use Rattle.demands.specs.Conditions.{to-write, writer-said, to-read, hoa-said}
-use Rattle.demands.specs.Decisions.{fault-decided, fault-is, judged, valid-decided}
+use Rattle.demands.specs.Conditions.{to-write, writer-said, to-read, hoa-said, reader-said}
+use Rattle.demands.specs.Decisions.{some-none, fault-decided, fault-is, judged, valid-decided}
 
-pub hoa-judged : (s : List ℕ) → Judged (to-read s) (hoa-said (read s)) (Unit {0})
+text-judged : (s : List ℕ) → Judged (to-read s) (hoa-said (read s)) (Unit {0})
 unfolding read
-hoa-judged s =
+text-judged s =
     judged (decLe (length s) 65536, λ h. (fault-decided (hoa-said (reading (tokens s))), λ e. tt)) refused (λ (h, (e, t)). by-length (le-leb (length s) 65536 h) ∙ e)
   where
     by-length : {b : Bool} → leb (length s) 65536 ≡ b → hoa-said (read s) ≡ hoa-said (cond b (reading (tokens s)) (refuses (Size 65536)))
@@ -34,6 +39,21 @@ hoa-judged s =
     refused c (inl (h, e)) = (by-length (lt-leb (length s) 65536 (omega arith)) ∙ ap some (sym e), tt)
     refused c (inr (h, inl (f, e))) = (by-length (le-leb (length s) 65536 h) ∙ fault-is (hoa-said (reading (tokens s))) c f e, tt)
     refused c (inr (h, inr (f, t))) = absurd t
+
+-- the reply says what the text gives
+reply-said : (x : Result Automaton) → hoa-said x ≡ reader-said (told x .answer)
+reply-said (gives a) = refl
+reply-said (refuses f) = refl
+
+pub reader-judged : (s : List ℕ) (r : Reading) → r ≡ told (read s) → Judged (to-read s) (reader-said (r .answer)) (Unit {0})
+reader-judged s r e = subst (λ x. Judged (to-read s) x (Unit {0})) (reply-said (read s) ∙ ap (λ (r : Reading). reader-said (r .answer)) (sym e)) (text-judged s)
+
+pub reader-valid : (s : List ℕ) (r : Reading) → r ≡ told (read s) → r .answer ≡ Read → Valid (r .automaton)
+reader-valid s r e q = go (read s) refl
+  where
+    go : (x : Result Automaton) → read s ≡ x → Valid (r .automaton)
+    go (gives a) f = subst (λ (r : Reading). Valid (r .automaton)) (sym (e ∙ ap told f)) (accepted-valid s f)
+    go (refuses x) f = some-none (sym (ap (λ (r : Reading). reader-said (r .answer)) (e ∙ ap told f)) ∙ ap reader-said q)
 
 pub writer-judged : (a : Automaton) (out after : List ℕ) (answer : Written) → Answered a out after answer
     → Judged (to-write a (length out)) (writer-said answer) (after ≡ out)

@@ -7,6 +7,7 @@ pub mod ComparisonJudged
 pub mod ClausesJudged
 pub mod SolverTextJudged
 pub mod DecoderJudged
+pub mod SearchJudged
 pub mod Demand1
 pub mod Demand2
 pub mod Demand3

@@ -60,7 +60,3 @@ module _ (a : Automaton) (out : List ℕ) where
           outside = λ _ g. absurd (g v);
           written = λ _ _. (ap (λ k. Text k) e, w .is ∙ ap (λ k. text a ++ drop k out) e);
         }
-
--- what the test that is `true` iff P says where it does not fail
-pub passes-so : {r : Bool} {P : Type 0} → (r ≡ true) ↔ P → not r ≡ false → P
-passes-so {r} e t = e .0 (not-false r t)

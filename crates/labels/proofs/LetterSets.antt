@@ -5,25 +5,13 @@ use Prim.Native.Nat.{ℕ, zero, suc, _/_, _%_, _^_, _≤_, _<_}
 use native.Mathlib.Nat.{mod-lt, zero-lt-suc, div-eq-of-lt}
 use native.Mathlib.Omega.{arith}
 use borrow.Author.Tests.{eqb-true}
-use lib.Bits.{bitAnd, bitOr, bitXor, and-shr, and-mod, xor-shr, xor-mod}
+use lib.Bits.{bitAnd, bitOr, bitXor, xor-shr, xor-mod}
 use lib.Dec.{eqb}
 use lib.Pow.{pow-mono}
 use Rattle.meaning.specs.Tests.{all, all-at}
-use Rattle.meaning.specs.BitSet.{digit, has, has-or, has-zero}
+use Rattle.meaning.specs.BitSet.{digit, has, has-or, has-and, has-zero}
 use Rattle.hoa_text.specs.Labels.{Formula, proposition, top, bottom, negation, conjunction, disjunction, holds}
 use Rattle.labels.specs.Answers.{Satisfy}
-
-digit-and : (a b : ℕ) → a < 2 → b < 2 → digit (bitAnd a b) ≡ (digit a && digit b)
-digit-and zero b ha hb = refl
-digit-and (suc zero) zero ha hb = refl
-digit-and (suc zero) (suc zero) ha hb = refl
-digit-and (suc zero) (suc (suc b)) ha hb = absurd (omega arith)
-digit-and (suc (suc a)) b ha hb = absurd (omega arith)
-
-pub has-and : (a b i : ℕ) → has (bitAnd a b) i ≡ (has a i && has b i)
-has-and a b i =
-    ap (λ n. digit (n % 2)) (and-shr a b i) ∙ ap digit (and-mod (a / 2 ^ i) (b / 2 ^ i) 1)
-    ∙ digit-and (a / 2 ^ i % 2) (b / 2 ^ i % 2) (mod-lt (a / 2 ^ i) (zero-lt-suc 1)) (mod-lt (b / 2 ^ i) (zero-lt-suc 1))
 
 digit-not : (a : ℕ) → a < 2 → digit (bitXor a 1) ≡ not (digit a)
 digit-not zero h = refl

@@ -21,7 +21,7 @@ use Rattle.hoa_text.specs.QuotedOffsets.{InQuotes, quotes-carried, quotes-more,
 use Rattle.hoa_text.specs.SignOffsets.{left-mark, left-body, left-end, left-abort, left-dash, opensSign, OpensNone, left-none}
 use Rattle.scan.specs.declared.Token.{Token}
 use Rattle.scan.specs.declared.Token.the-variants.{Word, Item, Number, Quoted, Sign, Body, End, Abort, Unread, Over, Broken}
-use Rattle.scan.specs.Answers.{stream, Within, Lies, Reads, Skipped, Digits, Other, isSignOf, Behind}
+use Rattle.scan.specs.Answers.{stream, Within, Ends, Lies, Reads, Skipped, Digits, Other, isSignOf, Behind}
 use Rattle.hoa_text.specs.Grammar.{next, at}
 use denote.Enum.Declared.{tagOf, declared}
 use types.Run.{OneOf, miss}
@@ -255,11 +255,14 @@ above-digits b h = and-not (leb 48 b) (lt-leb b 57 h)
 within-before : {s : List ℕ} {i e o n : ℕ} → i ≤ e → Within s e o n → Within s i o n
 within-before h w = record { from = omega (arith, w .from); longer = w .longer; to = w .to }
 
+ends-before : {s : List ℕ} {i e o n : ℕ} → i ≤ e → Ends s e o n → Ends s i o n
+ends-before h w = record { from = omega (arith, w .from); longer = w .longer; to = w .to }
+
 lies-before : (s : List ℕ) (i e : ℕ) (t : Token) → i ≤ e → Lies s e t → Lies s i t
 lies-before s i e (Word o n) h l = within-before h l
-lies-before s i e (Item o n) h l = within-before h l
+lies-before s i e (Item o n) h l = ends-before h l
 lies-before s i e (Number o v n) h l = within-before h l
-lies-before s i e (Quoted o n) h l = within-before h l
+lies-before s i e (Quoted o n) h l = ends-before h l
 lies-before s i e (Sign o b) h l = within-before h l
 lies-before s i e (Body o) h l = within-before h l
 lies-before s i e (End o) h l = within-before h l

@@ -35,11 +35,17 @@ pub record Within (s : List ℕ) (i o e : ℕ) : Type 0 where
   pub longer : o < e
   pub to : e ≤ length s
 
+-- a token from o to its last byte at e, a colon or a quote, at or after i
+pub record Ends (s : List ℕ) (i o e : ℕ) : Type 0 where
+  pub from : i ≤ o
+  pub longer : o < e
+  pub to : e + 1 ≤ length s
+
 abbrev pub Lies : List ℕ → ℕ → Token → Type 0
 Lies s i (Word o e) = Within s i o e
-Lies s i (Item o e) = Within s i o (e + 1)
+Lies s i (Item o e) = Ends s i o e
 Lies s i (Number o v e) = Within s i o e
-Lies s i (Quoted o e) = Within s i o (e + 1)
+Lies s i (Quoted o e) = Ends s i o e
 Lies s i (Sign o b) = Within s i o (o + 1)
 Lies s i (Body o) = Within s i o (o + 8)
 Lies s i (End o) = Within s i o (o + 7)

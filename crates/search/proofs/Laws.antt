@@ -5,7 +5,6 @@ use mathlib.Core.Bool.{Bool, true, false, not, true≢false}
 use mathlib.Core.List.{List}
 use Prim.Native.Nat.{ℕ, _^_}
 use native.Mathlib.Decide.{ℕ-discrete}
-use borrow.Author.Tests.{not-true, not-false}
 use Rattle.meaning.specs.Agreement.{Agree, Comparable}
 use Rattle.meaning.specs.Decision.{decide-agree}
 use Rattle.automaton.specs.declared.Automaton.{Automaton}
@@ -16,13 +15,6 @@ use Rattle.search.specs.declared.Search.{Search}
 use Rattle.search.specs.declared.Reply.{Reply}
 use Rattle.search.specs.Replies.{Room, Admitted, AskedFor, Found, letters, differ, taken}
 use Rattle.search.specs.Judged.{judged}
-
--- what a test that is `true` iff P says
-pub fails-not : {r : Bool} {P : Type 0} → (r ≡ true) ↔ P → not r ≡ true → ¬ P
-fails-not e t p = true≢false (sym (e .1 p) ∙ not-true _ t)
-
-pub passes-so : {r : Bool} {P : Type 0} → (r ≡ true) ↔ P → not r ≡ false → P
-passes-so e t = e .0 (not-false _ t)
 
 -- a table of the right size is answered by the comparison's promise
 module _ {s : Search} {table : Automaton} {p q l m : List ℕ} {x : Comparison} {r : Reply} (room : Room p l) (j : Admitted s table) (a : AskedFor s table)

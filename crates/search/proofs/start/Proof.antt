@@ -3,7 +3,7 @@ use mathlib.Core.Path.{ap, _∙_}
 use Rattle.automaton.specs.declared.refusal.Refusal.the-variants.{Outside}
 use Rattle.search.specs.declared.Answer.the-variants.{Taken}
 use Rattle.search.specs.Replies.{outside, taken, replied, refused}
-use Rattle.search.proofs.Laws.{fails-not, passes-so}
+use Rattle.meaning.specs.Tests.{fails-not, passes-so}
 use borrow.Author.Needs.{needs}
 use Rattle.search.proofs.start.Statement.{statement}
 use Rattle.search.proofs.start.Tie as tie

@@ -1,6 +1,6 @@
 -- `told` meets its contract.
 use Rattle.search.specs.Replies.{outside, finished, taken}
-use Rattle.search.proofs.Laws.{fails-not, passes-so}
+use Rattle.meaning.specs.Tests.{fails-not, passes-so}
 use borrow.Author.Needs.{needs}
 use Rattle.search.proofs.told.Statement.{statement}
 use Rattle.search.proofs.told.Tie as tie

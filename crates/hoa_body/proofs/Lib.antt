@@ -1,7 +1,0 @@
-pub mod SetLaws
-pub mod TableLaws
-pub mod TokenLaws
-pub mod EdgeLaws
-pub mod PartLaws
-pub mod EndLaws
-pub mod BodyLaws

@@ -1,0 +1,5 @@
+mod Tokens
+mod Condition
+mod Kept
+mod Turns
+mod Opened

@@ -1,0 +1,49 @@
+-- Contracts of the functions that read what stands behind `Acceptance:`.
+use mathlib.Core.Path.{_≡_}
+use mathlib.Core.Bool.{Bool}
+use mathlib.Core.List.{List}
+use Prim.Native.Nat.{ℕ, zero, suc, _/_, _%_, _≤_, _<_}
+use lib.ListN.{length}
+use Rattle.hoa_text.specs.Tokens.{Token}
+use Rattle.hoa_text.specs.Grammar.{isWord, isSign, isNumber, gives, refuses, Parsed}
+use Rattle.hoa_text.specs.Header.{Items, setsRead, setsItem}
+use Rattle.hoa_text.specs.Offsets.{left}
+use Rattle.hoa_header.specs.declared.acceptance.SetsRead.{SetsRead}
+use Rattle.hoa_header.specs.declared.acceptance.SetsRead.the-variants.{Sets, Refused}
+
+-- from i on stand m sets and their condition, and the text behind begins at e; h are the items before
+pub record SetsFrom (s : List ℕ) (i : ℕ) (h : Items) (m e : ℕ) : Type 0 where
+  pub is : setsItem h (left s i) ≡ setsRead h m (left s e)
+  pub from : i < e
+  pub to : e ≤ length s
+
+abbrev pub SetsAnswered : List ℕ → ℕ → Items → SetsRead → Type 0
+SetsAnswered s i h (Sets m e) = SetsFrom s i h m e
+SetsAnswered s i h (Refused r) = setsItem h (left s i) ≡ refuses r
+
+-- whatever the items before
+abbrev pub ReadsSets : List ℕ → ℕ → SetsRead → Type 0
+ReadsSets s i r = (h : Items) → SetsAnswered s i h r
+
+-- x gives the number of sets, and the text behind the condition begins at e
+pub record Accepted (s : List ℕ) (i : ℕ) (x : Parsed ℕ) (m e : ℕ) : Type 0 where
+  pub is : x ≡ gives (m, left s e)
+  pub from : i ≤ e
+  pub to : e ≤ length s
+
+abbrev pub Accepts : List ℕ → ℕ → Parsed ℕ → SetsRead → Type 0
+Accepts s i x (Sets m e) = Accepted s i x m e
+Accepts s i x (Refused r) = x ≡ refuses r
+
+-- the token at the place j of the set q: `Inf`, `(`, its number, `)`, and the `&` behind it
+abbrev pub placed : ℕ → ℕ → Token → Bool
+placed zero q = isWord "Inf"
+placed (suc zero) q = isSign "("
+placed (suc (suc zero)) q = isNumber q
+placed (suc (suc (suc zero))) q = isSign ")"
+placed (suc (suc (suc (suc j)))) q = isSign "&"
+
+-- token i of the condition for m sets
+abbrev pub tokenOf : ℕ → ℕ → Token → Bool
+tokenOf zero i = isWord "t"
+tokenOf (suc n) i = placed (i % 5) (i / 5)

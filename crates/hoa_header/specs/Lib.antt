@@ -1,0 +1,6 @@
+pub mod Answers
+pub mod Fits
+pub mod Expected
+pub mod Acceptance
+pub mod Kept
+pub mod Opening

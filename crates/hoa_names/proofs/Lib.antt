@@ -1,0 +1,4 @@
+pub mod Due
+mod Slots
+mod Judged
+mod Text

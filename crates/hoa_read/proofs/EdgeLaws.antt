@@ -1,0 +1,142 @@
+-- Laws of edges: label, destination, marks.
+use mathlib.Core.Path.{_≡_, refl, sym, ap, _∙_, subst}
+use mathlib.Core.Logic.{_≢_}
+use mathlib.Core.Bool.{cond}
+use mathlib.Core.List.{List}
+use mathlib.Core.Option.{none}
+use Prim.Native.Nat.{ℕ, _^_, _≤_, _<_, min}
+use native.Mathlib.Omega.{arith}
+use borrow.Author.Tests.{lt-ltb, le-ltb}
+use lib.Bits.{bitOr, or-lt}
+use lib.ListN.{length}
+use lib.Pow.{pow-lt}
+use Rattle.automaton.specs.declared.refusal.Refusal.{Refusal}
+use Rattle.automaton.specs.declared.refusal.Refusal.the-variants.{Form, Undeclared}
+use Rattle.hoa_text.specs.Tokens.{Stream, stands, over, broken}
+use Rattle.hoa_text.specs.Grammar.{numberOf, isSign, next, rest, at, gives, refuses, peek, due, then}
+use Rattle.hoa_text.specs.Labels.{Formula, label}
+use Rattle.hoa_text.specs.Header.{Header}
+use Rattle.hoa_text.specs.Body.{Table, marks, marked, destinationGiven, labelGiven, edge}
+use Rattle.hoa_text.specs.Offsets.{left}
+use Rattle.scan.specs.declared.Token.the-variants.{Number}
+use Rattle.scan.specs.Answers.{Reads, Behind}
+use Rattle.labels.specs.Answers.{Read}
+use Rattle.labels.proofs.Laws.{absent, present, behind-it}
+use Rattle.hoa_read.specs.declared.edges.MarksRead.{MarksRead}
+use Rattle.hoa_read.specs.declared.edges.MarksRead.the-variants as Marks
+use Rattle.hoa_read.specs.declared.edges.EdgeRead.{EdgeRead}
+use Rattle.hoa_read.specs.declared.edges.EdgeRead.the-variants.{To, Refused}
+use Rattle.hoa_read.specs.Marks.{Marked, MarksAnswer, ClosedAnswer}
+use Rattle.hoa_read.specs.Edges.{EdgeLies, EdgeMeans, EdgeAnswer, LabelledAnswer}
+use Rattle.hoa_read.proofs.TokenLaws.{number-due}
+
+-- ---- marks
+
+closing : (n m : ℕ) (u : Stream) → peek numberOf u ≡ none → marks n m u ≡ cond (next (isSign "}") u) (gives (m, rest u)) (refuses (Form (at u)))
+closing n m (stands o t s) e = rw e
+closing n m (over o) e = refl
+closing n m (broken q o) e = refl
+
+module _ (s : List ℕ) (i e m : ℕ) (h : Behind s i 125 e) where
+  pub closed-read : e ≢ i → m < 16 → ClosedAnswer s i m (Marks.Marks m e)
+  closed-read q l n p = record {
+    is = closing n m (left s i) p ∙ rw (present "}" 125 refl s i e h q) (ap (λ u. gives (m, u)) (behind-it "}" 125 refl s i e h q));
+    small = l;
+    from = h .from;
+    to = h .to q;
+  }
+
+  pub closed-refused : e ≡ i → (o : ℕ) → o ≡ at (left s i) → ClosedAnswer s i m (Marks.Refused (Form o))
+  closed-refused q o g n p = closing n m (left s i) p ∙ rw (absent "}" 125 refl s i e h q) (ap (λ o. refuses (Form o)) (sym g))
+
+-- the marks up to i are the set m, of n sets
+pub record Listed (s : List ℕ) (b n m i : ℕ) : Type 0 where
+  pub is : marks n 0 (left s b) ≡ marks n m (left s i)
+  pub small : m < 16
+  pub from : b ≤ i
+
+module _ (s : List ℕ) (b n m i : ℕ) (j : Listed s b n m i) where
+  module _ (o v e : ℕ) (h : Reads s i (Number o v e)) where
+    pub mark-undeclared : n ≤ v → marks n 0 (left s b) ≡ refuses (Undeclared o)
+    mark-undeclared l = j .is ∙ ap (marks n m) (h .is) ∙ rw (le-ltb v n l)
+
+    pub mark-listed : v < n → n ≤ 4 → (p : ℕ) → p ≡ 2 ^ min v 4 → Listed s b n (bitOr m p) e
+    mark-listed l g p k =
+        let v4 : min v 4 ≡ v = omega arith in
+        let is-p : p ≡ 2 ^ v = k ∙ ap (λ x. 2 ^ x) v4 in
+        let small-p : 2 ^ v < 16 = pow-lt {j = 4} (omega arith) in
+        record {
+          is = j .is ∙ ap (marks n m) (h .is) ∙ rw (lt-ltb v n l) (ap (λ x. marks n (bitOr m x) (left s e)) (sym is-p));
+          small = or-lt 4 m p (j .small) (omega arith);
+          from = omega (arith, j .from, h .lies .from, h .lies .longer);
+        }
+
+  pub marks-closed : (r : MarksRead) → ClosedAnswer s i m r → peek numberOf (left s i) ≡ none → MarksAnswer s b (marks n 0 (left s b)) r
+  marks-closed (Marks.Marks x e) c p = let y = c n p in record { is = j .is ∙ y .is; small = y .small; from = omega (arith, j .from, y .from); to = y .to }
+  marks-closed (Marks.Refused r) c p = j .is ∙ c n p
+
+module _ (s : List ℕ) (i e n : ℕ) (h : Behind s i 123 e) where
+  pub no-marks : e ≡ i → i ≤ length s → Marked s i (marked n (left s i)) 0 i
+  no-marks q l = record { is = rw (absent "{" 123 refl s i e h q); small = omega arith; from = omega arith; to = l }
+
+  opening : e ≢ i → marked n (left s i) ≡ marks n 0 (left s e)
+  opening q = rw (present "{" 123 refl s i e h q) (ap (marks n 0) (behind-it "{" 123 refl s i e h q))
+
+  pub some-marks : e ≢ i → (r : MarksRead) → MarksAnswer s e (marks n 0 (left s e)) r → MarksAnswer s i (marked n (left s i)) r
+  some-marks q (Marks.Marks m x) y = record { is = opening q ∙ y .is; small = y .small; from = omega (arith, h .from, y .from); to = y .to }
+  some-marks q (Marks.Refused r) y = opening q ∙ y
+
+-- ---- the destination
+
+module _ (s : List ℕ) (i e n set : ℕ) (h : Behind s i 93 e) where
+  pub unclosed : e ≡ i → (o : ℕ) → o ≡ at (left s i) → LabelledAnswer s i n set (Refused (Form o))
+  unclosed q o g = record {
+    lies = tt;
+    means = λ a t p f c l. rw (absent "]" 93 refl s i e h q) (ap (λ o. refuses (Form o)) (sym g));
+  }
+
+  module _ (q : e ≢ i) where
+    behind-label : (a : Header) (t : Table) (p : ℕ) (f : Formula) (u : Stream) → left s e ≡ u
+        → labelGiven a t p f (left s i) ≡ then (due numberOf u) (destinationGiven a t p f (at u))
+    behind-label a t p f u x =
+        rw (present "]" 93 refl s i e h q)
+        (ap (λ v. then (due numberOf v) (destinationGiven a t p f (at v))) (behind-it "]" 93 refl s i e h q ∙ x))
+
+    module _ (o d x : ℕ) (k : Reads s e (Number o d x)) where
+      pub arrived : d < n → LabelledAnswer s i n set (To set d x)
+      arrived l = record {
+        lies = record { below = l; from = omega (arith, h .from, k .lies .from, k .lies .longer); to = k .lies .to };
+        means = λ a t p f c g. record {
+          formula = f;
+          letters = g;
+          is = behind-label a t p f _ (k .is) ∙ rw (lt-ltb d (a .states) (omega arith));
+        };
+      }
+
+      pub arrived-nowhere : n ≤ d → LabelledAnswer s i n set (Refused (Undeclared o))
+      arrived-nowhere l = record { lies = tt; means = λ a t p f c g. behind-label a t p f _ (k .is) ∙ rw (le-ltb d (a .states) (omega arith)) }
+
+    pub no-destination : peek numberOf (left s e) ≡ none → (o : ℕ) → o ≡ at (left s e) → LabelledAnswer s i n set (Refused (Form o))
+    no-destination k o g = record {
+      lies = tt;
+      means = λ a t p f c l. behind-label a t p f (left s e) refl ∙ ap (λ y. then y (destinationGiven a t p f (at (left s e)))) (number-due (left s e) o k g);
+    }
+
+-- ---- the label
+
+module _ (s : List ℕ) (i n k : ℕ) where
+  labelled : (a : Header) (t : Table) (q : ℕ) → length (a .names) ≡ k → edge a t q (left s i) ≡ then (label k (left s i)) (labelGiven a t q)
+  labelled a t q e = ap (λ k. then (label k (left s i)) (labelGiven a t q)) e
+
+  pub label-refused : (r : Refusal) → label k (left s i) ≡ refuses r → EdgeAnswer s i n k (Refused r)
+  label-refused r x = record { lies = tt; means = λ a t q c e. labelled a t q e ∙ ap (λ y. then y (labelGiven a t q)) x }
+
+  pub label-read : (set b : ℕ) → Read s i (label k (left s i)) set b → (r : EdgeRead) → LabelledAnswer s b n set r → EdgeAnswer s i n k r
+  label-read set b x r y = record { lies = lie r (y .lies); means = λ a t q c e. subst (λ z. EdgeMeans a t q s z r) (sym (is a t q e)) (y .means a t q (x .formula) c (x .letters)) }
+    where
+      is : (a : Header) (t : Table) (q : ℕ) → length (a .names) ≡ k → edge a t q (left s i) ≡ labelGiven a t q (x .formula) (left s b)
+      is a t q e = labelled a t q e ∙ ap (λ y. then y (labelGiven a t q)) (x .is)
+
+      lie : (r : EdgeRead) → EdgeLies s b n r → EdgeLies s i n r
+      lie (To m d e) z = record { below = z .below; from = omega (arith, x .from, z .from); to = z .to }
+      lie (Refused r) z = tt

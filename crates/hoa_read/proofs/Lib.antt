@@ -1,0 +1,8 @@
+pub mod SetLaws
+pub mod TableLaws
+pub mod TokenLaws
+pub mod EdgeLaws
+pub mod PartLaws
+pub mod EndLaws
+pub mod BodyLaws
+pub mod ReadLaws

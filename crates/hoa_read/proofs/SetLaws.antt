@@ -1,0 +1,57 @@
+-- Laws of sets as numbers, and of their lowest members.
+use mathlib.Core.Path.{_≡_, refl, ap, _∙_}
+use mathlib.Core.Bool.{Bool, true, false, cond}
+use mathlib.Core.Option.{Option, none, some}
+use Prim.Native.Nat.{ℕ, zero, suc, _/_, _%_, _*_, _^_, _≤_, _<_}
+use native.Mathlib.Nat.{mod-lt, mod-eq-of-lt, zero-lt-suc}
+use native.Mathlib.Omega.{arith}
+use borrow.Author.Tests.{eqb-true}
+use lib.Dec.{eqb}
+use lib.Pow.{pow-lt}
+use Rattle.meaning.specs.Tests.{all, all-at}
+use Rattle.meaning.specs.BitSet.{digit, has}
+use Rattle.hoa_text.specs.Basics.{first}
+use Rattle.hoa_text.specs.Counting.{none-first, first-some}
+use Rattle.hoa_read.specs.Sets.{Lowest}
+
+digit-test : (d : ℕ) → d < 2 → eqb d 1 ≡ digit d
+digit-test zero h = refl
+digit-test (suc zero) h = refl
+digit-test (suc (suc d)) h = absurd (omega arith)
+
+pub has-test : (s i : ℕ) → eqb (s / 2 ^ i % 2) 1 ≡ has s i
+has-test s i = digit-test (s / 2 ^ i % 2) (mod-lt (s / 2 ^ i) (zero-lt-suc 1))
+
+-- ---- the set of i alone
+
+pub single-is : (i : ℕ) → i < 16 → 1 * 2 ^ i % 65536 ≡ 2 ^ i
+single-is i h =
+    let l : 2 ^ i < 65536 = pow-lt h in
+    let e : 1 * 2 ^ i ≡ 2 ^ i = omega arith in
+    rw e (mod-eq-of-lt l)
+
+-- a test as a digit
+abbrev bit : Bool → ℕ
+bit true = 1
+bit false = 0
+
+digit-bit : (b : Bool) → digit (bit b) ≡ b
+digit-bit true = refl
+digit-bit false = refl
+
+pub has-single : (p q : ℕ) → p < 16 → q < 16 → has (2 ^ p) q ≡ eqb q p
+has-single p q hp hq =
+    let row = all-at 16 (λ p. all 16 (λ q. eqb (2 ^ p / 2 ^ q % 2) (bit (eqb q p)))) refl p hp in
+    ap digit (eqb-true (2 ^ p / 2 ^ q % 2) (bit (eqb q p)) (all-at 16 (λ q. eqb (2 ^ p / 2 ^ q % 2) (bit (eqb q p))) row q hq)) ∙ digit-bit (eqb q p)
+
+-- ---- the first that there is, by the lowest member
+
+module _ {A : Type 0} (set n r : ℕ) (low : Lowest set n r) (f : ℕ → Option A) (x : ℕ → A) (is : (i : ℕ) → i < n → f i ≡ cond (has set i) (some (x i)) none) where
+  lower : (i : ℕ) → i < n → i < r → f i ≡ none
+  lower i h g = is i h ∙ ap (λ b. cond b (some (x i)) none) (low .lower i g)
+
+  pub first-found : r < n → first n f ≡ some (x r)
+  first-found h = first-some n f r (x r) h (is r h ∙ ap (λ b. cond b (some (x r)) none) (low .found h)) (λ i g. lower i (omega arith) g)
+
+  pub first-lacks : n ≤ r → first n f ≡ none
+  first-lacks h = none-first n f (λ i g. lower i g (omega arith))

@@ -1,0 +1,131 @@
+// What the body is made of: states, edges and its end.
+use crate::edges::EdgeRead;
+use crate::edges::MarksRead;
+use crate::edges::edge;
+use crate::edges::marks;
+use crate::sets::has;
+use crate::sets::lowest;
+use crate::tables::Table;
+use automaton::Automaton;
+use automaton::powers::power_of_two;
+use automaton::refusal::Refusal;
+use scan::Token;
+use scan::next_token;
+use scan::offset;
+use words::END;
+use words::STATE;
+use words::names_item;
+ghost use Prim.Native.Nat.{_≤_, _<_};
+ghost use lib.ListN.{length};
+ghost use Rattle.hoa_read.specs.Opened.{Bounded};
+ghost use Rattle.hoa_read.specs.Parts.{PartAnswer, StateAnswer, EdgePartAnswer, JudgedAnswer, Unquoted};
+
+// What stands first in the body; the last number is the offset behind it.
+pub enum Part {
+    // A state.
+    State(usize, usize),
+    // An edge of the current state: the letters of its label, its destination, its marks.
+    Edge(u16, usize, usize, usize),
+    // `--END--`
+    End(usize),
+    Refused(Refusal),
+}
+
+pub fn next_part(text: &[u8], at: usize, opened: Automaton, table: Table) -> Part
+    requires { ⌜ Bounded opened ⌝ }
+    ensures { λ r. ⌜ PartAnswer (now (text .entry)) at opened table r ⌝ }
+{
+    match next_token(text, at) {
+        Token::Item(start, colon) => {
+            if names_item(text, start, colon, &STATE) {
+                return state_part(text, colon + 1, opened.states, table.named);
+            }
+            Part::Refused(Refusal::Form(start))
+        }
+        Token::Sign(start, byte) => {
+            if byte != b'[' {
+                return Part::Refused(Refusal::Form(start));
+            }
+            if table.current >= Automaton::STATES {
+                return Part::Refused(Refusal::Form(start));
+            }
+            edge_part(text, start + 1, opened, table)
+        }
+        Token::End(start) => Part::End(start + END.len()),
+        _ => Part::Refused(Refusal::Form(offset(text, at))),
+    }
+}
+
+// Behind `State:`.
+fn state_part(text: &[u8], at: usize, states: usize, named: u16) -> Part
+    requires { ⌜ states ≤ 16 ⌝ }
+    ensures { λ r. ⌜ StateAnswer (now (text .entry)) at states named r ⌝ }
+{
+    match next_token(text, at) {
+        Token::Number(start, state, next) => {
+            if state >= states {
+                return Part::Refused(Refusal::Undeclared(start));
+            }
+            if has(named, state) {
+                return Part::Refused(Refusal::Body(start, state));
+            }
+            Part::State(state, unquoted(text, next))
+        }
+        _ => Part::Refused(Refusal::Form(offset(text, at))),
+    }
+}
+
+// The offset behind a quoted text; `at` where none stands first.
+fn unquoted(text: &[u8], at: usize) -> usize
+    requires { ⌜ at ≤ length (now text) ⌝ }
+    ensures { λ r. ⌜ Unquoted (now (text .entry)) at r ⌝ }
+{
+    match next_token(text, at) {
+        Token::Quoted(_, end) => end + 1,
+        _ => at,
+    }
+}
+
+// Behind the `[` of an edge of the current state.
+fn edge_part(text: &[u8], at: usize, opened: Automaton, table: Table) -> Part
+    requires { ⌜ Bounded opened × (table .current < 16) ⌝ }
+    ensures { λ r. ⌜ EdgePartAnswer (now (text .entry)) at opened table r ⌝ }
+{
+    match edge(text, at, opened.states, opened.propositions) {
+        EdgeRead::Refused(refusal) => Part::Refused(refusal),
+        EdgeRead::To(set, destination, next) => judged_edge(
+            text,
+            next,
+            opened,
+            table,
+            set,
+            destination,
+        ),
+    }
+}
+
+// Behind the destination. A second edge for a letter is judged once the marks are read.
+fn judged_edge(
+    text: &[u8],
+    at: usize,
+    opened: Automaton,
+    table: Table,
+    set: u16,
+    destination: usize,
+) -> Part
+    requires { ⌜ Bounded opened × (table .current < 16) × (destination < 16) × (at ≤ length (now text)) ⌝ }
+    ensures { λ r. ⌜ JudgedAnswer (now (text .entry)) at opened table set destination r ⌝ }
+{
+    let state = table.current;
+    let letters = power_of_two(opened.propositions);
+    let second = lowest(set & table.given[state], letters);
+    match marks(text, at, opened.sets) {
+        MarksRead::Refused(refusal) => Part::Refused(refusal),
+        MarksRead::Marks(marked, next) => {
+            if second < letters {
+                return Part::Refused(Refusal::SecondEdge(state, second));
+            }
+            Part::Edge(set, destination, marked, next)
+        }
+    }
+}
