@@ -1,7 +1,7 @@
 -- A text written piece by piece: what is written and what is left make up the whole.
-use mathlib.Core.Path.{_≡_, refl, sym, ap, ap₂, _∙_, subst, subst₂}
+use mathlib.Core.Path.{_≡_, refl, sym, ap, ap₂, _∙_, subst}
 use mathlib.Core.Bool.{true, false}
-use mathlib.Core.List.{List, [], _∷_, _++_, append-assoc}
+use mathlib.Core.List.{List, [], _∷_, _++_, append-assoc, append-nil}
 use Prim.Native.Nat.{ℕ, _+_, _≤_, _<_}
 use native.Mathlib.Numerals.{add-one}
 use native.Mathlib.Omega.{arith}
@@ -13,6 +13,7 @@ use Rattle.decimal.specs.Wrote.{Wrote, WroteIfRoom}
 use Rattle.decimal.specs.Writing.{wrote-none, wrote-one, wrote-then, wrote-length}
 use Rattle.decimal.specs.Decimal.{decimal}
 use Rattle.clause_text.specs.Text.{literalText, lineText}
+use Rattle.clause_text.specs.Pieces.{spacedText, closing, line-spaced, spaced-append}
 use Rattle.clause_text.proofs.Signs.{text-negative, text-other}
 
 -- d is d₀ with the first part of the whole from `at` on, up to `to`; this is left
@@ -32,32 +33,44 @@ module _ {whole d₀ : List ℕ} {at : ℕ} {d : List ℕ} {to : ℕ} where
   pub spelled-then : (v left : List ℕ) {e : List ℕ} {r : ℕ} → Spelled whole d₀ at d to (v ++ left) → Wrote d to v e r → Spelled whole d₀ at e r left
   spelled-then v left s w = record { written = s .written ++ v; spells = append-assoc (s .written) v left ∙ s .spells; wrote = wrote-then (s .wrote) w }
 
-  pub spelled-one : (v : ℕ) (left : List ℕ) → Spelled whole d₀ at d to (v ∷ left) → to < length d → Spelled whole d₀ at (set d to v) (to + 1) left
-  spelled-one v left s h = spelled-then (v ∷ []) left s (wrote-one d to v h)
-
-  -- the last two bytes
-  pub spelled-closed : (x y : ℕ) → Spelled whole d₀ at d to (x ∷ y ∷ []) → at + length whole ≤ length d₀ → Wrote d₀ at whole (set (set d to x) (to + 1) y) (to + 2)
-  spelled-closed x y s h =
-      let room = spelled-room s h in
-      let e : to + 1 + 1 ≡ to + 2 = omega arith in
-      let one = wrote-one d to x (omega arith) in
-      subst₂ (λ t r. Wrote d₀ at t (set (set d to x) (to + 1) y) r) (s .spells) e
-      (wrote-then (s .wrote) (wrote-then one (wrote-one (set d to x) (to + 1) y (omega (arith, length-set d to x)))))
-
   pub spelled-as : {left rest : List ℕ} → left ≡ rest → Spelled whole d₀ at d to left → Spelled whole d₀ at d to rest
   spelled-as e s = subst (Spelled whole d₀ at d to) e s
 
--- ---- the literals of a line
+  pub spelled-all : Spelled whole d₀ at d to [] → Wrote d₀ at whole d to
+  spelled-all s = subst (λ t. Wrote d₀ at t d to) (sym (append-nil (s .written)) ∙ s .spells) (s .wrote)
 
--- the line's text from literal i on
-pub line-from : (c : List ℤ) (count i : ℕ) → count ≤ length c → i < count
-    → lineText (drop i (take count c)) ≡ literalText (getD c i (pos 0)) ++ (32 ∷ lineText (drop (i + 1) (take count c)))
-line-from c count i h l =
-    ap lineText (drop-cons (take count c) i (pos 0) (omega (arith, length-take-le count c h)))
-    ∙ ap₂ (λ x k. literalText x ++ (32 ∷ lineText (drop k (take count c)))) (getD-take count c i (pos 0) l) (sym (add-one i))
+-- ---- literals with a space after each
 
-pub line-end : (c : List ℤ) (count i : ℕ) → count ≤ length c → i ≡ count → lineText (drop i (take count c)) ≡ 48 ∷ 10 ∷ []
-line-end c count i h e = ap lineText (drop-of-length-le (take count c) {i = i} (omega (arith, length-take-le count c h)))
+pub wrote-spaced : {d e : List ℕ} {at r : ℕ} (x : ℤ) → Wrote d at (literalText x) e r → r < length d → Wrote d at (spacedText (x ∷ [])) (set e r 32) (r + 1)
+wrote-spaced {e} {r} x w h = wrote-then w (wrote-one e r 32 (omega (arith, wrote-length w)))
+
+pub spaced-length : (x : ℤ) → length (spacedText (x ∷ [])) ≡ length (literalText x) + 1
+spaced-length x = length-append (literalText x) (32 ∷ [])
+
+-- the text from literal i on
+pub spaced-from : (c : List ℤ) (count i : ℕ) → count ≤ length c → i < count
+    → spacedText (drop i (take count c)) ≡ spacedText (getD c i (pos 0) ∷ []) ++ spacedText (drop (i + 1) (take count c))
+spaced-from c count i h l =
+    ap spacedText (drop-cons (take count c) i (pos 0) (omega (arith, length-take-le count c h)))
+    ∙ ap₂ (λ x k. spacedText (x ∷ drop k (take count c))) (getD-take count c i (pos 0) l) (sym (add-one i))
+    ∙ spaced-append (getD c i (pos 0) ∷ []) (drop (i + 1) (take count c))
+
+pub spaced-end : (c : List ℤ) (count i : ℕ) → count ≤ length c → i ≡ count → spacedText (drop i (take count c)) ≡ []
+spaced-end c count i h e = ap spacedText (drop-of-length-le (take count c) {i = i} (omega (arith, length-take-le count c h)))
+
+-- ---- the end of a line
+
+pub wrote-two : (d : List ℕ) (at x y : ℕ) → at + 2 ≤ length d → Wrote d at (x ∷ y ∷ []) (set (set d at x) (at + 1) y) (at + 2)
+wrote-two d at x y h =
+    let e : at + 1 + 1 ≡ at + 2 = omega arith in
+    subst (Wrote d at (x ∷ y ∷ []) (set (set d at x) (at + 1) y)) e
+    (wrote-then (wrote-one d at x (omega arith)) (wrote-one (set d at x) (at + 1) y (omega (arith, length-set d at x))))
+
+pub line-length-is : (c : List ℤ) → length (lineText c) ≡ length (spacedText c) + 2
+line-length-is c = ap length (sym (line-spaced c)) ∙ length-append (spacedText c) closing
+
+pub wrote-line : (c : List ℤ) {d e f : List ℕ} {at r s : ℕ} → Wrote d at (spacedText c) e r → Wrote e r closing f s → Wrote d at (lineText c) f s
+wrote-line c {d} {f} {at} {s} w v = subst (λ t. Wrote d at t f s) (line-spaced c) (wrote-then w v)
 
 -- ---- one literal
 

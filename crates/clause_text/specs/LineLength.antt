@@ -30,7 +30,7 @@ use Rattle.clause_text.specs.Text.{literalText, lineText}
 
 -- ---- the text of a literal, and of a line
 
-literal-le : (x : ℤ) → natAbs x ≤ 4_199_424 → length (literalText x) ≤ 8
+pub literal-le : (x : ℤ) → natAbs x ≤ 4_199_424 → length (literalText x) ≤ 8
 literal-le (pos k) h = omega (arith, decimal-at-most k 7 (omega arith) (omega arith))
 literal-le (negsuc k) h = omega (arith, decimal-at-most (k + 1) 7 (omega arith) (omega arith))
 
@@ -56,7 +56,7 @@ module _ (T : Task) (num : Var → ℕ) where
   clause-length c hn hm (an-extension q p t u v l I J K h₁ h₂ hK k e) = omega (arith, simp length-append at (ap length e), marks-length p l t K)
   clause-length c hn hm (a-closure q p v l I J K h hv hI hJ hK k x e) = omega (arith, ap length e, marks-length p l q K)
 
-abs-negated : (k : ℕ) → natAbs (negℤ (pos k)) ≡ k
+pub abs-negated : (k : ℕ) → natAbs (negℤ (pos k)) ≡ k
 abs-negated zero = refl
 abs-negated (suc k) = refl
 

@@ -1,4 +1,5 @@
 // The next line, and as many as fit. The reference has been tested: nothing here looks at it again.
+use crate::block::block_lines;
 use crate::copying::copy;
 use crate::writing::write_line;
 use automaton::Automaton;
@@ -52,7 +53,7 @@ pub fn next_line(
 }
 
 // The same where less may be left than a line may want: a line that does not fit is not written, and the position stays.
-pub fn next_line_if_room(
+fn next_line_if_room(
     z: Sizes,
     g: Extent,
     start: ReferenceState,
@@ -110,7 +111,7 @@ pub fn fill(
     }
 }
 
-// Writes one line more, where there is one and it fits; it is written straight away where 80 bytes are left.
+// Writes one line more, where there is one and it fits, or several lines of group 3.
 fn more_lines(
     z: Sizes,
     g: Extent,
@@ -125,8 +126,18 @@ fn more_lines(
     requires { ⌜ ExtentOf z g × (at ≤ length (now text)) ⌝ }
     ensures { λ r. ⌜ Further (taskOf z (start .0) (now (destinations .entry)) (now (marks .entry))) (numberOf z) from (now (text .entry)) at (now (text .exit)) (r .end) (r .position) ⌝ }
 {
-    if text.len() - at < 80 {
+    let room = text.len() - at;
+    if room < 80 {
         return next_line_if_room(z, g, start, destinations, marks, from, text, at);
     }
-    next_line(z, g, start, destinations, marks, from, text, at)
+    let before = g.first + g.second;
+    // A run has at most 16 lines.
+    if (room < 1280) | (from < before) | (from >= before + g.third) {
+        return next_line(z, g, start, destinations, marks, from, text, at);
+    }
+    let filled = block_lines(z, destinations, marks, from - before, text, at);
+    Filled {
+        end: filled.end,
+        position: before + filled.position,
+    }
 }

@@ -18,6 +18,7 @@ ghost use Rattle.clause_list.specs.Tables.{Measured};
 ghost use Rattle.clause_text.specs.Answers.{LineStepped, LineFound, BatchStepped, BatchFound};
 
 mod batch;
+mod block;
 mod copying;
 mod writing;
 

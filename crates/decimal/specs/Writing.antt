@@ -6,7 +6,7 @@ use native.Mathlib.Nat.{add-zero, add-assoc}
 use native.Mathlib.Numerals.{add-one}
 use native.Mathlib.Omega.{arith}
 use lib.ListN.{length, take, drop, set, length-append, length-take, length-drop, take-append-drop, drop-of-length-le}
-use lib.Seq.{set-split, take-at, drop-at, take-all, drop-drop}
+use lib.Seq.{set-split, take-at, drop-at, take-all, drop-drop, take-append-le, drop-append-le}
 use Rattle.decimal.specs.Wrote.{Wrote}
 
 module _ {A : Type 0} where
@@ -36,9 +36,25 @@ module _ {A : Type 0} where
             ∙ ap (λ l. take at d ++ l) (sym (append-assoc v w (drop s d)));
       }
 
-  -- what was written at the start of a buffer is read there
+  part-of-front : (p q : List A) (b n : ℕ) → b + n ≤ length p → take n (drop b (p ++ q)) ≡ take n (drop b p)
+  part-of-front p q b n h = ap (take n) (drop-append-le b p q (omega arith)) ∙ take-append-le n (drop b p) q (omega (arith, length-drop b p))
+
+  -- what stands before the place of writing stays
+  pub wrote-before : {d : List A} {at : ℕ} {w e : List A} {r : ℕ} → Wrote d at w e r → (b n : ℕ) → b + n ≤ at → take n (drop b e) ≡ take n (drop b d)
+  wrote-before {d} {at} {w} {r} p b n h =
+      let l : b + n ≤ length (take at d) = omega (arith, p .next, p .room, length-take at d) in
+      ap (λ l. take n (drop b l)) (p .is) ∙ part-of-front (take at d) (w ++ drop r d) b n l ∙ sym (part-of-front (take at d) (drop at d) b n l)
+      ∙ ap (λ l. take n (drop b l)) (take-append-drop at d)
+
+  -- what was written is read at its place, and so at the start of a buffer
+  pub wrote-here : {d : List A} {at : ℕ} {w e : List A} {r : ℕ} → Wrote d at w e r → take (length w) (drop at e) ≡ w
+  wrote-here {d} {at} {w} {r} p =
+      ap (λ l. take (length w) (drop at l)) (p .is)
+      ∙ ap (take (length w)) (drop-at (take at d) (w ++ drop r d) at (omega (arith, p .next, p .room, length-take at d)))
+      ∙ take-at w (drop r d) (length w) refl
+
   pub wrote-front : {d w e : List A} {r : ℕ} → Wrote d 0 w e r → take r e ≡ w
-  wrote-front {d} {w} {r} p = ap (take r) (p .is) ∙ take-at w (drop r d) r (omega (arith, p .next))
+  wrote-front {w} {e} {r} p = let k : r ≡ length w = omega (arith, p .next) in ap (λ k. take k e) k ∙ wrote-here p
 
   -- what was written at the start of the part `&mut d[a..]` stands in d from a on
   pub wrote-part : (d : List A) (a k : ℕ) {w p : List A} {r : ℕ} → a ≤ length d → k ≡ length d - a → Wrote (take k (drop a d)) 0 w p r

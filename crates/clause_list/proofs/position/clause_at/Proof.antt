@@ -2,7 +2,8 @@
 use mathlib.Core.Path.{refl}
 use Rattle.decimal.specs.Writing.{wrote-length}
 use Rattle.clause_list.specs.Position.{stands-same}
-use Rattle.clause_list.proofs.Standing.{stands, stands-length, totality-some, at-first, at-initial, at-successor, at-extension, at-closure, first-place}
+use Rattle.clause_list.specs.Standing.{at-first, at-initial, at-successor, at-extension, at-closure}
+use Rattle.clause_list.proofs.Standing.{stands, stands-length, totality-some, first-place}
 use native.Mathlib.Omega.{arith}
 use Rattle.clause_list.proofs.position.clause_at.Statement.{statement}
 use Rattle.clause_list.proofs.position.clause_at.Tie as tie

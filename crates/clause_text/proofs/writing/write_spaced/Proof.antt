@@ -1,0 +1,45 @@
+-- `write_spaced` meets its contract.
+use mathlib.Core.Path.{_≡_, subst}
+use mir.Syntax.{w32}
+use mir.Val.{toZ, ofZ}
+use mir.ValLaws.{toZ-ofZ}
+use Rattle.decimal.specs.Wrote.{Wrote}
+use Rattle.decimal.specs.Writing.{wrote-length}
+use Rattle.clause_text.specs.Text.{literalText}
+use Rattle.clause_text.proofs.Spelling.{wrote-spaced, spaced-length}
+use borrow.Author.Needs.{needs}
+use native.Mathlib.Omega.{arith}
+use Rattle.clause_text.proofs.writing.write_spaced.Statement.{statement}
+use Rattle.clause_text.proofs.writing.write_spaced.Tie as tie
+
+-- the literal is what its bits say
+back : (c : tie.Start) → toZ w32 (ofZ w32 (c .args .literal)) ≡ c .args .literal
+back c = toZ-ofZ w32 (c .args .literal) (c .fits .literal)
+
+-- its text is written
+written : (c : tie.After-slice-known2)
+    → Wrote (c .before .before .before .before .before .args .text .now) (c .before .before .before .before .before .args .at) (literalText (c .before .before .before .before .before .args .literal))
+    (c .before .before .write-literal .last .1 .0) (c .before .before .write-literal .result)
+written c =
+    let s = c .before .before .before .before .before in
+    subst (λ x. Wrote (s .args .text .now) (s .args .at) (literalText x) (c .before .before .write-literal .last .1 .0) (c .before .before .write-literal .result)) (back s) (c .before .before .write-literal .ensures)
+
+write-literal-requires : tie.Need-write-literal-requires
+write-literal-requires c κs = rw (back (c .before .before)) (omega (arith, spaced-length (c .before .before .args .literal)))
+
+slice-write-text : tie.Need-slice-write-text
+slice-write-text c = omega (arith, written c .next, wrote-length (written c), spaced-length (c .before .before .before .before .before .args .literal))
+
+add-result : tie.Need-add-result
+add-result c = search needs
+
+same-length : tie.Need-same-length
+same-length c = search needs
+
+returns : tie.Need-returns
+returns c = wrote-spaced (c .before .before .before .before .before .args .literal) (written c) (omega (arith, written c .next, spaced-length (c .before .before .before .before .before .args .literal)))
+
+pub write-spaced-spec : {M : Type 1} → statement M
+write-spaced-spec =
+    tie.close
+    (tie.spec write-literal-requires slice-write-text add-result same-length returns)

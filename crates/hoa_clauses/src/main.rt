@@ -1,0 +1,94 @@
+// Prints the clause file for the reference on standard input and the candidate's numbers of states and sets.
+use automaton::Automaton;
+use clause_text::lines;
+use clauses::Answer;
+use clauses::header::Totals;
+use clauses::header::header;
+use console::input;
+use console::output;
+use numerals::Number;
+use report::lines::LINE;
+use text_places::Place;
+
+fn main() {
+    if os::arg_count() != 3 {
+        return usage();
+    }
+    let Number::Of(n) = input::number(1) else {
+        return usage();
+    };
+    let Number::Of(m) = input::number(2) else {
+        return usage();
+    };
+    let given = input::from_input();
+    if !given.accepted {
+        return;
+    }
+    let reference = given.automaton;
+    print_file(reference, n as usize, m as usize);
+}
+
+fn usage() {
+    output::usage(b"hoa_clauses N M < REFERENCE");
+}
+
+fn print_file(reference: Automaton, n: usize, m: usize) {
+    let totals = header(reference, n, m);
+    match totals {
+        Totals::Of(variables, clauses) => {
+            print_header(variables, clauses);
+            print_clauses(reference, n, m);
+        }
+        Totals::Refused(x) => output::refuse(x, b"hoa_clauses", Place::first()),
+    }
+}
+
+fn print_header(variables: u64, clauses: u64) {
+    let mut line = [0u8; LINE];
+    let length = report::lines::header(variables, clauses, &mut line);
+    output::print_line(&line, length);
+}
+
+// The turns count down, since nothing says here that the clauses end.
+fn print_clauses(reference: Automaton, n: usize, m: usize) {
+    let mut position: u64 = 0;
+    let mut turns = u64::MAX;
+    while turns > 0 {
+        let next = print_batch(reference, n, m, position);
+        if !next.more {
+            return;
+        }
+        position = next.position;
+        turns -= 1;
+    }
+}
+
+struct Next {
+    more: bool,
+    position: u64,
+}
+
+// As many lines as a buffer holds.
+fn print_batch(reference: Automaton, n: usize, m: usize, position: u64) -> Next {
+    let mut text = io::large_buffer();
+    let handed = lines(reference, n, m, position, &mut text);
+    let answer = handed.answer;
+    let position = handed.position;
+    match answer {
+        Answer::Written(length) => Next {
+            more: output::print(&text, length),
+            position,
+        },
+        Answer::Ended => Next {
+            more: false,
+            position,
+        },
+        Answer::Refused(x) => {
+            output::refuse(x, b"hoa_clauses", Place::first());
+            Next {
+                more: false,
+                position,
+            }
+        }
+    }
+}

@@ -1,0 +1,87 @@
+// Says whether the automata of two files agree, and where they do not, prints a word that shows it.
+use automaton::Automaton;
+use automaton::refusal::Refusal;
+use compare::Comparison;
+use compare::compare;
+use console::input;
+use console::input::TEXT;
+use console::output;
+use report::lines;
+use report::lines::LINE;
+use text_places::Place;
+use text_places::part::first;
+
+fn main() {
+    if os::arg_count() != 3 {
+        output::usage(b"hoa_compare FIRST SECOND");
+        return;
+    }
+    let mut one = io::buffer();
+    let one_got = input::argument(1, &mut one);
+    if !one_got.whole {
+        return;
+    }
+    let mut other = io::buffer();
+    let other_got = input::argument(2, &mut other);
+    if !other_got.whole {
+        return;
+    }
+    compare_files(first(&one, one_got.length), first(&other, other_got.length));
+}
+
+// Both files are read before either is judged.
+fn compare_files(one: &[u8], other: &[u8]) {
+    let mut one_text = [0u8; TEXT];
+    let one_got = input::read_file(one, &mut one_text);
+    if !one_got.whole {
+        return;
+    }
+    let mut other_text = [0u8; TEXT];
+    let other_got = input::read_file(other, &mut other_text);
+    if !other_got.whole {
+        return;
+    }
+    let one_given = input::judge(one, &one_text, one_got.length);
+    if !one_given.accepted {
+        return;
+    }
+    let other_given = input::judge(other, &other_text, other_got.length);
+    if !other_given.accepted {
+        return;
+    }
+    let a = one_given.automaton;
+    let b = other_given.automaton;
+    print_comparison(a, b);
+}
+
+fn print_comparison(first: Automaton, second: Automaton) {
+    let mut prefix = [0u8; Comparison::PREFIX];
+    let mut cycle = [0u8; Comparison::LOOP];
+    let comparison = compare(first, second, &mut prefix, &mut cycle);
+    match comparison {
+        Comparison::Same => {
+            output::print(b"same\n", 5);
+        }
+        Comparison::Refused(x) => print_refusal(x, &prefix, &cycle),
+    }
+}
+
+// 12 is the answer that the two differ.
+fn print_refusal(x: Refusal, prefix: &[u8; Comparison::PREFIX], cycle: &[u8; Comparison::LOOP]) {
+    match x {
+        Refusal::Differ(p, l) => print_difference(p, l, prefix, cycle),
+        _ => output::refuse(x, b"hoa_compare", Place::first()),
+    }
+}
+
+fn print_difference(
+    p: usize,
+    l: usize,
+    prefix: &[u8; Comparison::PREFIX],
+    cycle: &[u8; Comparison::LOOP],
+) {
+    let mut line = [0u8; LINE];
+    let length = lines::differ(p, l, &mut line);
+    output::print_line(&line, length);
+    output::print_word(prefix, p, cycle, l);
+}

@@ -1,0 +1,79 @@
+// Prints the automaton that the solver's output on standard input describes, compared with the reference.
+use automaton::Automaton;
+use automaton::refusal::Refusal;
+use compare::Comparison;
+use console::input;
+use console::output;
+use decode::Answer;
+use libc::STDIN_FILENO;
+use numerals::Number;
+use text_places::Place;
+
+fn main() {
+    if os::arg_count() != 4 {
+        return usage();
+    }
+    let Number::Of(n) = input::number(2) else {
+        return usage();
+    };
+    let Number::Of(m) = input::number(3) else {
+        return usage();
+    };
+    let given = input::from_argument(1);
+    if !given.accepted {
+        return;
+    }
+    let reference = given.automaton;
+    print_decoded(reference, n as usize, m as usize);
+}
+
+fn usage() {
+    output::usage(b"hoa_decode REFERENCE N M < SOLVER-OUTPUT");
+}
+
+fn print_decoded(reference: Automaton, n: usize, m: usize) {
+    let mut prefix = [0u8; Comparison::PREFIX];
+    let mut cycle = [0u8; Comparison::LOOP];
+    let told = answers::read(
+        STDIN_FILENO,
+        b"standard input",
+        reference,
+        n,
+        m,
+        &mut prefix,
+        &mut cycle,
+    );
+    if !told.whole {
+        return;
+    }
+    let decoded = told.decoded;
+    let place = told.place;
+    let answer = decoded.answer;
+    match answer {
+        Answer::Table => output::print_automaton(decoded.table),
+        Answer::None => print_word(b"none\n"),
+        Answer::Unknown => print_word(b"unknown\n"),
+        Answer::Refused(x) => print_refusal(x, place, &prefix, &cycle),
+    }
+}
+
+fn print_word(word: &[u8]) {
+    output::print(word, word.len());
+}
+
+// After 12 comes the word that shows the difference; 8 speaks of the arguments.
+fn print_refusal(
+    x: Refusal,
+    place: Place,
+    prefix: &[u8; Comparison::PREFIX],
+    cycle: &[u8; Comparison::LOOP],
+) {
+    match x {
+        Refusal::Differ(p, l) => {
+            output::refuse(x, b"standard input", place);
+            output::print_word(prefix, p, cycle, l);
+        }
+        Refusal::Dimensions(_, _) => output::refuse(x, b"hoa_decode", place),
+        _ => output::refuse(x, b"standard input", place),
+    }
+}

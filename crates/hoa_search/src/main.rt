@@ -1,0 +1,168 @@
+// Replays solver answers to the search for fewer states, and prints the next question, or the best table once it is finished.
+use automaton::Automaton;
+use automaton::refusal::Refusal;
+use compare::Comparison;
+use console::input;
+use console::output;
+use decode::Decoded;
+use report::lines::LINE;
+use report::lines::ask;
+use search::Reply;
+use search::Search;
+use text_places::Place;
+use text_places::part::first;
+
+fn main() {
+    if os::arg_count() < 2 {
+        output::usage(b"hoa_search REFERENCE [ANSWER-FILE ..]");
+        return;
+    }
+    let given = input::from_argument(1);
+    if !given.accepted {
+        return;
+    }
+    let reference = given.automaton;
+    let replayed = replay(taken(search::start(reference), b"hoa_search", Place::first()));
+    if replayed.whole {
+        let search = replayed.search;
+        print_search(search);
+    }
+}
+
+// The search after the answers so far. Where one of them was not taken, it is not whole, and standard error has the reason.
+struct Replayed {
+    whole: bool,
+    search: Search,
+}
+
+fn replay(start: Replayed) -> Replayed {
+    let count = os::arg_count();
+    let mut replayed = start;
+    let mut i: usize = 2;
+    while i < count {
+        if !replayed.whole {
+            return replayed;
+        }
+        let search = replayed.search;
+        replayed = take_argument(search, i);
+        i += 1;
+    }
+    replayed
+}
+
+fn take_argument(search: Search, i: usize) -> Replayed {
+    let mut path = io::buffer();
+    let got = input::argument(i, &mut path);
+    if !got.whole {
+        return stopped(search);
+    }
+    take_file(search, first(&path, got.length))
+}
+
+fn take_file(search: Search, path: &[u8]) -> Replayed {
+    let fd = os::open_read(path);
+    if fd < 0 {
+        os::fail(path);
+        return stopped(search);
+    }
+    let replayed = take_text(search, fd, path);
+    libc::close(fd);
+    replayed
+}
+
+// A finished search no longer looks at an answer.
+fn take_text(search: Search, fd: i32, path: &[u8]) -> Replayed {
+    if search.finished {
+        return only_read(search, fd, path);
+    }
+    let mut prefix = [0u8; Comparison::PREFIX];
+    let mut cycle = [0u8; Comparison::LOOP];
+    let reference = search.reference;
+    let told = answers::read(
+        fd,
+        path,
+        reference,
+        search.n,
+        search.m,
+        &mut prefix,
+        &mut cycle,
+    );
+    if !told.whole {
+        return stopped(search);
+    }
+    let decoded = told.decoded;
+    let place = told.place;
+    answer(search, decoded, path, place)
+}
+
+fn only_read(search: Search, fd: i32, path: &[u8]) -> Replayed {
+    let mut piece = io::buffer();
+    let got = input::read_some(fd, path, &mut piece);
+    Replayed {
+        whole: got.whole,
+        search,
+    }
+}
+
+fn answer(search: Search, decoded: Decoded, path: &[u8], place: Place) -> Replayed {
+    let answer = decoded.answer;
+    match answer {
+        decode::Answer::Table => found(search, decoded.table, path),
+        decode::Answer::None => taken(search.none(), path, place),
+        decode::Answer::Unknown => taken(search.unknown(), path, place),
+        decode::Answer::Refused(x) => turned_down(search, x, path, place),
+    }
+}
+
+fn found(search: Search, table: Automaton, path: &[u8]) -> Replayed {
+    let mut prefix = [0u8; Comparison::PREFIX];
+    let mut cycle = [0u8; Comparison::LOOP];
+    taken(
+        search.found(table, &mut prefix, &mut cycle),
+        path,
+        Place::first(),
+    )
+}
+
+fn taken(reply: Reply, path: &[u8], place: Place) -> Replayed {
+    let search = reply.search;
+    let answer = reply.answer;
+    match answer {
+        search::Answer::Refused(x) => turned_down(search, x, path, place),
+        _ => Replayed {
+            whole: true,
+            search,
+        },
+    }
+}
+
+fn turned_down(search: Search, x: Refusal, path: &[u8], place: Place) -> Replayed {
+    output::refuse(x, path, place);
+    stopped(search)
+}
+
+fn stopped(search: Search) -> Replayed {
+    Replayed {
+        whole: false,
+        search,
+    }
+}
+
+fn print_search(search: Search) {
+    if !search.finished {
+        return print_question(search.n, search.m);
+    }
+    if search.open {
+        output::print(b"finished open\n", 14);
+    } else {
+        output::print(b"finished\n", 9);
+    }
+    let best = search.best;
+    output::print_automaton(best);
+}
+
+fn print_question(n: usize, m: usize) {
+    let mut line = [0u8; LINE];
+    let length = ask(n, m, &mut line);
+    output::print_line(&line, length);
+}

@@ -1,0 +1,30 @@
+-- `lines::pair` meets its contract.
+use native.Mathlib.Omega.{arith}
+use Rattle.decimal.specs.Digits.{decimal-at-most-20}
+use Rattle.decimal.specs.Writing.{wrote-then}
+use borrow.Author.Needs.{needs}
+use Rattle.report.proofs.lines.pair.Statement.{statement}
+use Rattle.report.proofs.lines.pair.Tie as tie
+
+word-requires : tie.Need-word-requires
+word-requires c κs = search needs
+
+spaced-requires : tie.Need-spaced-requires
+spaced-requires c κs = omega (arith, decimal-at-most-20 (c .before .before .before .before .before .before .before .args .a))
+
+spaced-requires-2 : tie.Need-spaced-requires-2
+spaced-requires-2 c κs = omega (arith, decimal-at-most-20 (c .before .before .before .before .before .before .before .before .before .before .before .args .a), decimal-at-most-20 (c .before .before .before .before .before .before .before .before .before .before .before .args .b))
+
+byte-requires : tie.Need-byte-requires
+byte-requires c κs = omega (arith, decimal-at-most-20 (c .before .before .before .before .before .before .before .before .before .before .before .before .before .before .before .args .a), decimal-at-most-20 (c .before .before .before .before .before .before .before .before .before .before .before .before .before .before .before .args .b))
+
+same-length : tie.Need-same-length
+same-length c = search needs
+
+returns : tie.Need-returns
+returns c = wrote-then (c .before .before .before .before .before .before .before .before .before .before .before .before .before .before .word .ensures) (wrote-then (c .before .before .before .before .before .before .before .before .before .before .spaced .ensures) (wrote-then (c .before .before .before .before .before .before .spaced2 .ensures) (c .before .before .byte .ensures)))
+
+pub pair-spec : {M : Type 1} → statement M
+pair-spec =
+    tie.close
+    (tie.spec word-requires spaced-requires spaced-requires-2 byte-requires same-length returns)
