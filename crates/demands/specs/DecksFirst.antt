@@ -27,7 +27,8 @@ use Rattle.hoa_text.specs.Body.{bodyRead}
 use Rattle.hoa_text.specs.Reading.{read}
 use Rattle.hoa_text.specs.Accepted.{accepted-valid}
 use Rattle.hoa_text.specs.Examples.{one-state}
-use Rattle.demands.specs.DecksWords.{Satisfiable, headerLine, headerText, Prints}
+use Rattle.report.specs.Lines.{headerLine}
+use Rattle.demands.specs.DecksWords.{Satisfiable, headerText, Prints}
 
 -- ---- what the calls write is the text of the file
 module _ {a : Automaton} {n m : ℕ} (v : Valid a) (d : Dimensioned n m) where

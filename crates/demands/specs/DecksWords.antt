@@ -10,8 +10,6 @@ use Rattle.automaton.specs.Refused.{codeOf}
 use Rattle.automaton.specs.View.{view}
 use Rattle.encoding.specs.Variables.{base-variables}
 use Rattle.encoding.specs.Clauses.{base-file, Assignment, Satisfies}
-use Rattle.decimal.specs.Decimal.{decimal}
-use Rattle.hoa_text.specs.Basics.{bytes}
 use Rattle.hoa_text.specs.Grammar.{gives, refuses}
 use Rattle.hoa_text.specs.Reading.{read}
 use Rattle.clauses.specs.declared.Answer.the-variants.{Ended}
@@ -31,6 +29,7 @@ use Rattle.solution.specs.Pieces.{joined}
 use Rattle.decode.specs.declared.Decoded.{Decoded}
 use Rattle.decode.specs.declared.Answer.the-variants as decode
 use Rattle.decode.specs.Answers.{Decodes, Untouched, without}
+use Rattle.report.specs.Lines.{headerLine}
 
 -- ---- HOA text
 
@@ -52,10 +51,6 @@ pub record Counts (a : Automaton) (n m variables clauses : ℕ) : Type 0 where
 -- "some"
 abbrev pub Satisfiable : Automaton → (n m : ℕ) → Type 0
 Satisfiable a n m = (ν : Assignment) × Satisfies ν (base-file (view a) n m)
-
--- "The header is `p cnf V C`"
-abbrev pub headerLine : ℕ → ℕ → List ℕ
-headerLine variables clauses = bytes "p cnf " ++ (decimal variables ++ (32 ∷ decimal clauses ++ (10 ∷ [])))
 
 -- by what the header answers
 abbrev pub headerText : Totals → List ℕ
