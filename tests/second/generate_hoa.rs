@@ -75,6 +75,9 @@ impl Parts {
 
     /// Something that a whole part of the text has wrong.
     fn damage(&mut self, random: &mut Random, automaton: &Automaton) {
+        if self.states.is_empty() {
+            return;
+        }
         let at = random.below(self.states.len());
         match random.below(16) {
             0 => drop_one(random, &mut self.items),
@@ -482,6 +485,9 @@ fn any_token(random: &mut Random) -> Token {
 
 fn damage_tokens(random: &mut Random, tokens: &mut Vec<Token>) {
     for _ in 0..random.within(1, 2) {
+        if tokens.is_empty() {
+            return;
+        }
         let at = random.below(tokens.len());
         match random.below(9) {
             0 => drop(tokens.remove(at)),
@@ -516,6 +522,9 @@ fn damage_bytes(random: &mut Random, text: &mut Vec<u8>) {
         return;
     }
     for _ in 0..random.within(1, 3) {
+        if text.is_empty() {
+            return;
+        }
         let at = random.below(text.len());
         match random.below(6) {
             0 => text[at] = any_byte(random),

@@ -203,6 +203,9 @@ impl Lines {
     }
 
     fn damage_lines(&mut self, random: &mut Random) {
+        if self.lines.is_empty() {
+            return;
+        }
         let at = random.below(self.lines.len());
         match random.below(8) {
             0 => self.ending = "\r\n",
@@ -256,6 +259,9 @@ fn one_line(random: &mut Random, tokens: &[String], wide: bool) -> String {
 }
 
 fn damage_bytes(random: &mut Random, text: &mut Vec<u8>) {
+    if text.is_empty() {
+        return;
+    }
     let at = random.below(text.len());
     let byte = random.pick(b" \t\n\r0123456789-svcSUA\x00\xff");
     match random.below(4) {

@@ -12,7 +12,7 @@ ghost use Prim.Native.Nat.{_≤_};
 ghost use lib.ListN.{length};
 
 // One byte more than a text may have, so that a longer one is seen.
-pub const TEXT: usize = 65537;
+pub const TEXT: usize = hoa_read::TEXT + 1;
 
 // How much was read. Where it is not whole, standard error has the reason.
 pub struct Got {

@@ -1,10 +1,11 @@
 // Standard output and standard error.
 use automaton::Automaton;
 use automaton::refusal::Refusal;
+use compare::Comparison;
 use hoa_write::Written;
 use libc::STDERR_FILENO;
 use libc::STDOUT_FILENO;
-use report::lasso;
+use report::lasso::WORD;
 use report::lasso::word_lines;
 use report::lines;
 use report::lines::LINE;
@@ -40,17 +41,17 @@ pub fn print_automaton(a: Automaton) {
 
 // Prints the two lines of a lasso word, which stands in two buffers.
 pub fn print_word(
-    prefix: &[u8; lasso::PREFIX],
+    prefix: &[u8; Comparison::PREFIX],
     prefixed: usize,
-    cycle: &[u8; lasso::LOOP],
+    cycle: &[u8; Comparison::LOOP],
     cycled: usize,
 ) {
-    let mut text = [0u8; lasso::TEXT];
+    let mut text = [0u8; WORD];
     let length = word_lines(prefix, prefixed, cycle, cycled, &mut text);
     print_lines(&text, length);
 }
 
-fn print_lines(text: &[u8; lasso::TEXT], length: usize) {
+fn print_lines(text: &[u8; WORD], length: usize) {
     print(text, length);
 }
 

@@ -1,5 +1,6 @@
 // The two lines of a lasso word, its letters as numbers.
 use crate::pieces::spaced;
+use compare::Comparison;
 use hoa_write::pieces::byte;
 use hoa_write::pieces::word;
 ghost use mathlib.Core.Path.{_≡_};
@@ -10,20 +11,16 @@ ghost use Rattle.decimal.specs.Wrote.{Wrote};
 ghost use Rattle.report.specs.Lines.{row, wordLines};
 ghost use Rattle.report.specs.Spaced.{spaced};
 
-// Places of the two buffers that a comparison fills, and bytes for the lines of what they hold.
-pub const PREFIX: usize = 256;
-
-pub const LOOP: usize = 1280;
-
-pub const TEXT: usize = 8192;
+// Bytes of a lent buffer: more than the lines of any word have.
+pub const WORD: usize = 8192;
 
 // `prefix ..` and `loop ..`: the first letters of the two buffers, as many as the lengths say.
 pub fn word_lines(
-    prefix: &[u8; PREFIX],
+    prefix: &[u8; Comparison::PREFIX],
     prefixed: usize,
-    cycle: &[u8; LOOP],
+    cycle: &[u8; Comparison::LOOP],
     cycled: usize,
-    out: &mut [u8; TEXT],
+    out: &mut [u8; WORD],
 ) -> usize
     ensures { λ r. ⌜ Wrote (now (out .entry)) 0 (wordLines (take prefixed (now (prefix .entry))) (take cycled (now (cycle .entry)))) (now (out .exit)) r ⌝ }
 {
