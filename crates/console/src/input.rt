@@ -8,8 +8,11 @@ use numerals::Number;
 use numerals::parse;
 use text_places::of;
 use text_places::part::first;
+ghost use mathlib.Core.Path.{_≡_};
 ghost use Prim.Native.Nat.{_≤_};
-ghost use lib.ListN.{length};
+ghost use lib.ListN.{length, take};
+ghost use Rattle.hoa_text.specs.Reading.{read};
+ghost use Rattle.console.specs.Given.{nothing, given, FromText, FromWord};
 
 // One byte more than a text may have, so that a longer one is seen.
 pub const TEXT: usize = hoa_read::TEXT + 1;
@@ -27,7 +30,9 @@ pub struct Given {
 }
 
 // The automaton on standard input.
-pub fn from_input() -> Given {
+pub fn from_input() -> Given
+    ensures { λ r. ⌜ FromText r ⌝ }
+{
     let mut text = [0u8; TEXT];
     let got = read_input(&mut text);
     if !got.whole {
@@ -38,7 +43,9 @@ pub fn from_input() -> Given {
 }
 
 // The automaton in the file that an argument names.
-pub fn from_argument(i: usize) -> Given {
+pub fn from_argument(i: usize) -> Given
+    ensures { λ r. ⌜ FromText r ⌝ }
+{
     let mut path = io::buffer();
     let got = argument(i, &mut path);
     if !got.whole {
@@ -47,7 +54,9 @@ pub fn from_argument(i: usize) -> Given {
     from_file(first(&path, got.length))
 }
 
-fn from_file(path: &[u8]) -> Given {
+fn from_file(path: &[u8]) -> Given
+    ensures { λ r. ⌜ FromText r ⌝ }
+{
     let mut text = [0u8; TEXT];
     let got = read_file(path, &mut text);
     if !got.whole {
@@ -58,7 +67,9 @@ fn from_file(path: &[u8]) -> Given {
 }
 
 // The automaton in the first bytes of a buffer.
-pub fn judge(name: &[u8], text: &[u8], length: usize) -> Given {
+pub fn judge(name: &[u8], text: &[u8], length: usize) -> Given
+    ensures { λ r. ⌜ r ≡ given (read (take length (now (text .entry)))) ⌝ }
+{
     let text = first(text, length);
     let reading = hoa_read::read(text);
     let answer = reading.answer;
@@ -72,13 +83,17 @@ pub fn judge(name: &[u8], text: &[u8], length: usize) -> Given {
     }
 }
 
-fn turned_down(x: Refusal, name: &[u8], text: &[u8]) -> Given {
+fn turned_down(x: Refusal, name: &[u8], text: &[u8]) -> Given
+    ensures { λ r. ⌜ r ≡ nothing ⌝ }
+{
     let code = x.code();
     refuse(x, name, of(text, code.first));
     none()
 }
 
-fn none() -> Given {
+fn none() -> Given
+    ensures { λ r. ⌜ r ≡ nothing ⌝ }
+{
     let automaton = Automaton::empty();
     Given {
         accepted: false,
@@ -87,7 +102,9 @@ fn none() -> Given {
 }
 
 // A number among the arguments.
-pub fn number(i: usize) -> Number {
+pub fn number(i: usize) -> Number
+    ensures { λ r. ⌜ FromWord r ⌝ }
+{
     let mut word = io::buffer();
     let got = argument(i, &mut word);
     if !got.whole {
@@ -97,7 +114,9 @@ pub fn number(i: usize) -> Number {
 }
 
 // An argument, as it was given.
-pub fn argument(i: usize, word: &mut [u8]) -> Got {
+pub fn argument(i: usize, word: &mut [u8]) -> Got
+    ensures { λ r. ⌜ r .length ≤ length (now (word .exit)) ⌝ }
+{
     let length = os::arg(i, word);
     if os::errno() != 0 {
         os::fail(b"argument");
@@ -112,11 +131,15 @@ pub fn argument(i: usize, word: &mut [u8]) -> Got {
     }
 }
 
-pub fn read_input(text: &mut [u8]) -> Got {
+pub fn read_input(text: &mut [u8]) -> Got
+    ensures { λ r. ⌜ r .length ≤ length (now (text .exit)) ⌝ }
+{
     read_all(STDIN_FILENO, b"standard input", text)
 }
 
-pub fn read_file(path: &[u8], text: &mut [u8]) -> Got {
+pub fn read_file(path: &[u8], text: &mut [u8]) -> Got
+    ensures { λ r. ⌜ r .length ≤ length (now (text .exit)) ⌝ }
+{
     let fd = os::open_read(path);
     if fd < 0 {
         os::fail(path);
@@ -131,7 +154,9 @@ pub fn read_file(path: &[u8], text: &mut [u8]) -> Got {
 }
 
 // Reads until the buffer is full or the input ends.
-fn read_all(fd: i32, name: &[u8], text: &mut [u8]) -> Got {
+fn read_all(fd: i32, name: &[u8], text: &mut [u8]) -> Got
+    ensures { λ r. ⌜ r .length ≤ length (now (text .exit)) ⌝ }
+{
     let mut filled: usize = 0;
     while filled < text.len() {
         let got = read_some(fd, name, &mut text[filled..]);

@@ -1,4 +1,4 @@
--- `input::read_all` is safe and ends: the buffer keeps its length, and its unwritten rest falls.
+-- `input::read_all` meets its contract: the buffer keeps its length, and its unwritten rest falls.
 use mathlib.Core.Path.{_∙_, _≡_}
 use Rattle.console.proofs.Rest as rest
 use Prim.Native.Nat.{_-_, _≤_}
@@ -33,7 +33,7 @@ same-length : tie.Need-same-length Inv-loop μ-loop
 same-length c = let l = c .before .before .before .before .before .before .before .loop in rest.same-length (l .text) (l .filled) (l .inv .0) (c .before .before .before .before .read-some .last .1 .1 .0) (c .before .before .before .before .read-some .kept .1 .1 .0) ∙ l .inv .1
 
 returns : tie.Need-returns Inv-loop μ-loop
-returns c = tt
+returns c = let l = c .before .before .before .before .before .before .before .loop in let e = rest.same-length (l .text) (l .filled) (l .inv .0) (c .before .before .before .before .read-some .last .1 .1 .0) (c .before .before .before .before .read-some .kept .1 .1 .0) in omega (arith, e, l .inv .0)
 
 add-filled : tie.Need-add-filled Inv-loop μ-loop
 add-filled c = let l = c .before .before .before .before .before .before .before .before .loop in record { fits = omega (arith, rest.rest-length (l .text) (l .filled) (l .inv .0), c .before .before .before .before .before .read-some .ensures, c .before .before .before .before .before .before .before .before .before .before .before .good) }
