@@ -8,6 +8,11 @@ use solution::Answer;
 use solution::Reader;
 use text_places::Place;
 use text_places::part::first;
+ghost use mathlib.Core.Path.{_≡_};
+ghost use Rattle.automaton.specs.Refused.{codeOf};
+ghost use Rattle.text_places.specs.Places.{within};
+ghost use Rattle.answers.specs.FromPieces.{FromPieces};
+ghost use Rattle.answers.specs.SoFar.{Hears, Goes, SoFar, endedAt};
 
 // What was decoded. Where the text could not be read, it is not whole, and standard error has the reason. Of a text that was
 // refused, `place` is that of the refusal's offset.
@@ -26,7 +31,9 @@ pub fn read(
     m: usize,
     prefix: &mut [u8],
     cycle: &mut [u8],
-) -> Told {
+) -> Told
+    ensures { λ r. ⌜ FromPieces (now (prefix .entry)) (now (prefix .exit)) (now (cycle .entry)) (now (cycle .exit)) r reference n m ⌝ }
+{
     let heard = hear_all(fd, name, reference, n, m);
     let reader = heard.reader;
     let place = heard.place;
@@ -40,7 +47,9 @@ pub fn read(
 }
 
 // The place of a refusal at the end of the text, behind which nothing comes.
-fn ended(answer: decode::Answer, place: Place, nothing: &[u8]) -> Place {
+fn ended(answer: decode::Answer, place: Place, nothing: &[u8]) -> Place
+    ensures { λ r. ⌜ r ≡ endedAt answer place (now (nothing .entry)) ⌝ }
+{
     match answer {
         decode::Answer::Refused(x) => refused_at(x, place, nothing),
         _ => place,
@@ -48,7 +57,9 @@ fn ended(answer: decode::Answer, place: Place, nothing: &[u8]) -> Place {
 }
 
 // The place of a refusal's offset, where a piece of the text begins at `place`.
-fn refused_at(x: Refusal, place: Place, piece: &[u8]) -> Place {
+fn refused_at(x: Refusal, place: Place, piece: &[u8]) -> Place
+    ensures { λ r. ⌜ r ≡ within place (now (piece .entry)) (codeOf x .first) ⌝ }
+{
     let code = x.code();
     place.within(piece, code.first)
 }
@@ -61,9 +72,11 @@ struct Heard {
     place: Place,
 }
 
-// The turns count down, since nothing says that a text ends. An empty piece comes first: what is refused before reading is
-// refused before the text is waited for.
-fn hear_all(fd: i32, name: &[u8], reference: Automaton, n: usize, m: usize) -> Heard {
+// An empty piece comes first: what is refused before reading is refused before the text is waited for. Byte 4,294,967,295 is
+// refused, so a text ends.
+fn hear_all(fd: i32, name: &[u8], reference: Automaton, n: usize, m: usize) -> Heard
+    ensures { λ r. ⌜ SoFar reference n m r ⌝ }
+{
     let mut heard = hear(
         Reader::fresh(),
         Place::first(),
@@ -72,26 +85,16 @@ fn hear_all(fd: i32, name: &[u8], reference: Automaton, n: usize, m: usize) -> H
         m,
         first(name, 0),
     );
-    let mut turns = u64::MAX;
-    while turns > 0 {
-        if !heard.more {
-            return heard;
-        }
+    while heard.more {
         heard = hear_some(heard, fd, name, reference, n, m);
-        turns -= 1;
     }
     heard
 }
 
 // One piece more.
-fn hear_some(
-    heard: Heard,
-    fd: i32,
-    name: &[u8],
-    reference: Automaton,
-    n: usize,
-    m: usize,
-) -> Heard {
+fn hear_some(heard: Heard, fd: i32, name: &[u8], reference: Automaton, n: usize, m: usize) -> Heard
+    ensures { λ r. ⌜ Goes reference n m heard r ⌝ }
+{
     let reader = heard.reader;
     let place = heard.place;
     let mut piece = io::large_buffer();
@@ -114,7 +117,9 @@ fn hear(
     n: usize,
     m: usize,
     piece: &[u8],
-) -> Heard {
+) -> Heard
+    ensures { λ r. ⌜ Hears reference n m reader place (now (piece .entry)) r ⌝ }
+{
     let reply = reader.read(reference, n, m, piece);
     let answer = reply.answer;
     let reader = reply.reader;

@@ -1,28 +1,26 @@
--- The positions of a block, run by run, and the lines that stand at them.
+-- The lines of a block, one after another, and the lines of group 3 as lines of the file.
 use mathlib.Core.Path.{_≡_, refl, sym, ap, ap₂, _∙_, subst, subst₂}
-use mathlib.Core.Bool.{false, _||_}
-use mathlib.Core.List.{List, [], _∷_, _++_}
-use Prim.Native.Nat.{ℕ, zero, suc, _+_, _-_, _*_, _/_, _%_, _^_, _≤_, _<_}
-use native.Mathlib.Nat.{div-add-mod', mod-lt, mul-one, mul-le-mul}
+use mathlib.Core.Bool.{true, false, _||_}
+use mathlib.Core.List.{List, [], _∷_, _++_, append-nil}
+use Prim.Native.Nat.{ℕ, zero, suc, _+_, _-_, _*_, _^_, _≤_, _<_}
+use native.Mathlib.Nat.{mul-one, mul-le-mul}
 use native.Mathlib.Omega.{arith}
 use borrow.Author.Tests.{ltb-false, leb-false}
+use lib.Bits.{or-lt}
 use lib.Dec.{ltb, leb}
-use lib.Arith.{digits-lt, digits-div, digits-mod}
 use lib.IntN.{ℤ}
 use lib.ListN.{length, getD, take, drop, length-append}
 use lib.Seq.{take-at, drop-at}
-use lib.Pow.{pow-pos, pow-mono}
+use lib.Pow.{pow-mono}
 use Rattle.meaning.specs.Tests.{or-false}
 use Rattle.encoding.specs.Variables.{Task}
-use Rattle.encoding.specs.Clauses.{each}
+use Rattle.encoding.specs.Clauses.{each, _∪_}
 use Rattle.encoding.specs.Loops.{each-same, each-add, each-length}
-use Rattle.encoding.specs.Numbering.{split}
 use Rattle.encoding.specs.Positions.{positions, at-position}
 use Rattle.decimal.specs.Wrote.{Wrote}
-use Rattle.decimal.specs.Writing.{wrote-none, wrote-then}
+use Rattle.decimal.specs.Writing.{wrote-none, wrote-then, wrote-length}
 use Rattle.variables.specs.declared.sizes.Sizes.{Sizes}
 use Rattle.variables.specs.Sizes.{Fitting}
-use Rattle.variables.specs.Limits.{candidate-subsets-le, reference-subsets-le}
 use Rattle.variables.specs.Numbers.{numberOf}
 use Rattle.clause_list.specs.declared.groups.Indices.{Indices}
 use Rattle.clause_list.specs.declared.position.Extent.{Extent}
@@ -34,56 +32,38 @@ use Rattle.clause_list.specs.Standing.{at-extension}
 use Rattle.clause_list.specs.Next.{handed, clauses-from}
 use Rattle.clause_list.specs.Following.{next-here}
 use Rattle.clause_text.specs.Text.{lineText, linesText}
+use Rattle.clause_text.specs.Pieces.{spacedText, closing, line-pieces}
 use Rattle.clause_text.specs.LineLength.{found-line-le}
 use Rattle.clause_text.specs.Filling.{Lines}
 use Rattle.clause_text.specs.LineNext.{Further}
-use Rattle.clause_text.specs.Blocks.{inRun, Kept, MiddlesShort, runText, RunShort, ExtensionsShort, Extensions}
+use Rattle.clause_text.specs.Kept.{Kept}
+use Rattle.clause_text.specs.Blocks.{pathLiteral, middleOf, pathTexts, middleTexts, Follows, ExtensionsShort, Extensions}
 use Rattle.clause_text.specs.LinesOut.{lines-append}
 use Rattle.clause_text.proofs.Batches.{line-some}
-use Rattle.clause_text.proofs.Runs.{middle-le}
 
--- ---- the positions of a block
+-- ---- a line in three pieces
 
-module _ (z : Sizes) where
-  abbrev M : ℕ
-  M = 2 ^ z .candidate .sets
+module _ (z : Sizes) (x : Indices) (w F : ℕ) where
+  abbrev pub head : List ℕ
+  head = spacedText (pathLiteral z true (x .q .0) (x .u .0) (x .p .0) (x .v .0) (x .i) (x .j) ∷ [])
 
-  abbrev S : ℕ
-  S = 2 ^ z .reference .sets
+  abbrev pub middle : List ℕ
+  middle = spacedText (middleOf z (x .p .0) (x .t .0) (x .l) (x .k))
 
-  -- the position of K in run e of the block that x stands in
-  abbrev pub blockAt : (x e k : ℕ) → ℕ
-  blockAt x e k = (x / M / S / M * (M * S) + e) * M + k
+  abbrev pub last : List ℕ
+  last = spacedText (pathLiteral z false (x .q .0) (x .u .0) (x .t .0) w (x .i ∪ x .k) (x .j ∪ F) ∷ [])
 
-  -- x is the position of its own K in its own run
-  pub block-own : (x : ℕ) → x ≡ blockAt x (x / M / S % M * S + x / M % S) (x % M)
-  block-own x =
-      let a = div-add-mod' x M in
-      let b = div-add-mod' (x / M) S in
-      let c = div-add-mod' (x / M / S) M in
-      sym (ap (λ y. y * M + x % M) (omega arith ∙ ap (λ y. y * S + x / M % S) c ∙ b) ∙ a)
+  line-is : head ++ (middle ++ (last ++ closing)) ≡ lineText (extensionOf z x w F)
+  line-is = line-pieces (pathLiteral z true (x .q .0) (x .u .0) (x .p .0) (x .v .0) (x .i) (x .j)) (middleOf z (x .p .0) (x .t .0) (x .l) (x .k)) (pathLiteral z false (x .q .0) (x .u .0) (x .t .0) w (x .i ∪ x .k) (x .j ∪ F))
 
-  pub run-lt : (x : ℕ) → x / M / S % M * S + x / M % S < M * S
-  run-lt x = digits-lt (mod-lt (x / M / S) (pow-pos (z .candidate .sets))) (mod-lt (x / M) (pow-pos (z .reference .sets)))
+  pub pieces-length : length (lineText (extensionOf z x w F)) ≡ length head + (length middle + (length last + 2))
+  pieces-length = ap length (sym line-is) ∙ simp length-append
 
-  run-sets : (e : ℕ) → e < M * S → (e / S < M) × (e % S < S) × (e / S * S + e % S ≡ e)
-  run-sets e h = split e M S h
+  pub line-written : {d e f g h : List ℕ} {at a b c end : ℕ} → Wrote d at head e a → Wrote e a middle f b → Wrote f b last g c → Wrote g c closing h end
+      → Wrote d at (lineText (extensionOf z x w F)) h end
+  line-written {d} {h} {at} {end} i j k l = subst (λ t. Wrote d at t h end) line-is (wrote-then i (wrote-then j (wrote-then k l)))
 
-  pub block-indices : (x e k : ℕ) → e < M * S → k < M → extensionIndices z (blockAt x e k) ≡ inRun z (extensionIndices z x) e k
-  block-indices x e k h hk =
-      let (hi, hj, e-is) = run-sets e h in
-      let a = x / M / S / M in
-      let split-at : blockAt x e k ≡ ((a * M + e / S) * S + e % S) * M + k = ap (λ y. (a * (M * S) + y) * M + k) (sym e-is) ∙ omega arith in
-      ap (extensionIndices z) split-at ∙ simp (digits-div, digits-mod)
-
-  pub block-within : (x e : ℕ) → x < extensions z → e < M * S → blockAt x e 0 + M ≤ extensions z
-  block-within x e h l =
-      let n = z .candidate .states in
-      let N = n * n * n * z .reference .states * z .reference .states * z .letters in
-      let k = split x (N * M * S) M h in
-      let j = split (x / M) (N * M) S (k .0) in
-      let i = split (x / M / S) N M (j .0) in
-      omega (arith, digits-lt {q = x / M / S / M * (M * S) + e} {m = N * (M * S)} {r = M - 1} {c = M} (digits-lt (i .0) l) (omega (arith, pow-pos (z .candidate .sets))))
+-- ---- lines of positions one after another
 
 module _ {z : Sizes} {destinations marks : List ℕ} where
   pub extensions-none : (x : ℕ) (d : List ℕ) (at : ℕ) → x ≤ extensions z → at ≤ length d → Extensions z destinations marks x d at d at x
@@ -121,33 +101,7 @@ module _ {z : Sizes} {destinations marks : List ℕ} where
               line-some l,
             )
 
--- ---- the lines of a run of x's block
-
-module _ (z : Sizes) (destinations marks : List ℕ) (x : ℕ) {w F : ℕ} (h : x < extensions z) (w-is : w ≡ getD destinations (extensionIndices z x .v .0 * 16 + extensionIndices z x .l) 0)
-    (F-is : F ≡ getD marks (extensionIndices z x .v .0 * 16 + extensionIndices z x .l) 0) (e k : ℕ) (l : e < 2 ^ z .candidate .sets * 2 ^ z .reference .sets) (i : k < 2 ^ z .candidate .sets) where
-  clause-at : (j : ℕ) → j < 2 ^ z .candidate .sets → extensionAt z destinations marks (blockAt z x e j) ≡ extensionOf z (inRun z (extensionIndices z x) e j) w F
-  clause-at j g =
-      ap (λ y. extensionOf z y (getD destinations (y .v .0 * 16 + y .l) 0) (getD marks (y .v .0 * 16 + y .l) 0)) (block-indices z x e j l g)
-      ∙ ap₂ (extensionOf z (inRun z (extensionIndices z x) e j)) (sym w-is) (sym F-is)
-
-  pub run-short : ExtensionsShort z destinations marks → RunShort z (inRun z (extensionIndices z x) e k) w F
-  run-short short j g = subst (λ c. length (lineText c) ≤ 80) (clause-at j g) (short (blockAt z x e j) (omega (arith, block-within z x e h l)))
-
-  clause-from : (o : ℕ) → k + o < 2 ^ z .candidate .sets → extensionAt z destinations marks (blockAt z x e k + o) ≡ extensionOf z (inRun z (extensionIndices z x) e (k + o)) w F
-  clause-from o g =
-      let there : blockAt z x e k + o ≡ blockAt z x e (k + o) = omega arith in
-      ap (extensionAt z destinations marks) there ∙ clause-at (k + o) g
-
-  pub run-extensions : {d : List ℕ} {at : ℕ} {f : List ℕ} {r : ℕ} → Wrote d at (runText z (inRun z (extensionIndices z x) e k) w F (2 ^ z .candidate .sets - k)) f r
-      → Extensions z destinations marks (blockAt z x e k) d at f r (blockAt z x e k + (2 ^ z .candidate .sets - k))
-  run-extensions {d} {at} {f} {r} v = record {
-    count = 2 ^ z .candidate .sets - k;
-    within = omega (arith, block-within z x e h l);
-    text = subst (λ t. Wrote d at t f r) (ap linesText (each-same (2 ^ z .candidate .sets - k) _ _ (λ o g. ap (λ c. c ∷ []) (sym (clause-from o (omega arith)))))) v;
-    next = refl;
-  }
-
--- ---- the loop over the runs
+-- ---- the loop over the lines of a block
 
 pub extensions-le : {z : Sizes} → Fitting z → extensions z ≤ 8_589_934_592
 extensions-le {z} f =
@@ -155,119 +109,62 @@ extensions-le {z} f =
     let S-le : 2 ^ z .reference .sets ≤ 16 = pow-mono {j = 4} (f .s-le) in
     mul-le-mul (mul-le-mul (mul-le-mul (mul-le-mul (mul-le-mul (mul-le-mul (mul-le-mul (mul-le-mul (f .n-le) (f .n-le)) (f .n-le)) (f .r-le)) (f .r-le)) (f .letters-le)) M-le) S-le) M-le
 
-pub runs-le : {z : Sizes} → Fitting z → z .candidate .subsets * z .reference .subsets ≤ 256
-runs-le f = mul-le-mul (candidate-subsets-le f) (reference-subsets-le f)
+-- the lines on to a position are written, x has that position's indices as long as the block goes on, and texts are kept for x
+pub record AtBlock (z : Sizes) (destinations marks : List ℕ) (from : ℕ) (d : List ℕ) (at : ℕ) (e heads headSizes middles middleSizes lasts lastSizes : List ℕ) (x : Indices) (position to : ℕ) : Type 0 where
+  pub lines : Extensions z destinations marks from d at e to position
+  pub here : x .v .0 < z .reference .states → (position < extensions z) × (x ≡ extensionIndices z position)
+  pub some : z .reference .states ≤ x .v .0 → from < position
+  pub heads-kept : Kept (pathTexts z true (x .q .0) (x .u .0) (x .p .0)) 16 4096 heads headSizes
+  pub middles-kept : Kept (middleTexts z (x .p .0) (x .t .0)) 80 256 middles middleSizes
+  pub lasts-kept : Kept (pathTexts z false (x .q .0) (x .u .0) (x .t .0)) 16 4096 lasts lastSizes
 
--- the sizes that the code has, as powers
-runs-are : {z : Sizes} → Fitting z → z .candidate .subsets * z .reference .subsets ≡ 2 ^ z .candidate .sets * 2 ^ z .reference .sets
-runs-are f = ap₂ _*_ (f .candidate-subsets) (f .reference-subsets)
+module _ {z : Sizes} {destinations marks : List ℕ} (tables : Tables z destinations marks) {position : ℕ} {x : Indices} (h : position < extensions z) (is : x ≡ extensionIndices z position) where
+  pub indices-within : Within z x
+  indices-within = subst (Within z) (sym is) (extension-within z position h)
 
-pub runs-here : {z : Sizes} {e : ℕ} → Fitting z → e < z .candidate .subsets * z .reference .subsets → e < 2 ^ z .candidate .sets * 2 ^ z .reference .sets
-runs-here {z} {e} f h = subst (λ b. e < b) (runs-are f) h
-
-pub runs-all : {z : Sizes} {e : ℕ} → Fitting z → z .candidate .subsets * z .reference .subsets ≤ e → e ≤ 2 ^ z .candidate .sets * 2 ^ z .reference .sets
-    → e ≡ 2 ^ z .candidate .sets * 2 ^ z .reference .sets
-runs-all f h g = omega (arith, runs-are f)
-
--- the lines from x on to the position of K in run e are written
-pub record AtRun (z : Sizes) (destinations marks : List ℕ) (x : ℕ) (d : List ℕ) (at : ℕ) (f : List ℕ) (e k position to : ℕ) : Type 0 where
-  pub lines : Extensions z destinations marks x d at f to position
-  pub place : position ≡ blockAt z x e k
-  pub e-le : e ≤ 2 ^ z .candidate .sets * 2 ^ z .reference .sets
-  pub k-lt : k < 2 ^ z .candidate .sets
-
-module _ {z : Sizes} {destinations marks : List ℕ} (tables : Tables z destinations marks) (x : ℕ) (h : x < extensions z) (i : Indices) (is : i ≡ extensionIndices z x) where
-  indices-within : Within z i
-  indices-within = subst (Within z) (sym is) (extension-within z x h)
-
-  pub indices-lt : (i .v .0 < 16) × (i .l < 16)
+  pub indices-lt : (x .v .0 < 16) × (x .l < 16)
   indices-lt = (omega (arith, indices-within .v-lt, tables .fits .r-le), omega (arith, indices-within .l-lt, tables .fits .letters-le))
 
-  own-run : i .i * z .reference .subsets + i .j ≡ x / 2 ^ z .candidate .sets / 2 ^ z .reference .sets % 2 ^ z .candidate .sets * 2 ^ z .reference .sets + x / 2 ^ z .candidate .sets % 2 ^ z .reference .sets
-  own-run = ap (λ s. i .i * s + i .j) (tables .fits .reference-subsets) ∙ ap (λ i. i .i * 2 ^ z .reference .sets + i .j) is
+  module _ {w F : ℕ} (w-is : w ≡ getD destinations (x .v .0 * 16 + x .l) 0) (F-is : F ≡ getD marks (x .v .0 * 16 + x .l) 0) where
+    clause-is : extensionOf z x w F ≡ extensionAt z destinations marks position
+    clause-is =
+        ap₂ (extensionOf z x) w-is F-is
+        ∙ ap (λ y. extensionOf z y (getD destinations (y .v .0 * 16 + y .l) 0) (getD marks (y .v .0 * 16 + y .l) 0)) is
 
-  pub own-run-lt : i .i * z .reference .subsets + i .j < z .candidate .subsets * z .reference .subsets
-  own-run-lt = subst₂ (λ a b. a < b) (sym own-run) (sym (runs-are (tables .fits))) (run-lt z x)
+    pub step-lt : (w < z .reference .states) × (F < 2 ^ z .reference .sets)
+    step-lt = (rw w-is (tables .step-lt _ _ (indices-within .v-lt) (indices-within .l-lt)), rw F-is (tables .marks-lt _ _ (indices-within .v-lt) (indices-within .l-lt)))
 
-  pub runs-start : (d : List ℕ) (at : ℕ) → at ≤ length d → AtRun z destinations marks x d at d (i .i * z .reference .subsets + i .j) (i .k) x at
-  runs-start d at l = record {
-    lines = extensions-none x d at (omega arith) l;
-    place = block-own z x ∙ ap₂ (blockAt z x) (sym own-run) (sym (ap (λ i. i .k) is));
-    e-le = omega (arith, own-run, run-lt z x);
-    k-lt = indices-within .k-lt;
-  }
+    pub line-short : ExtensionsShort z destinations marks → length (lineText (extensionOf z x w F)) ≤ 80
+    line-short short = subst (λ c. length (lineText c) ≤ 80) (sym clause-is) (short position h)
 
-  pub middles-short : ExtensionsShort z destinations marks → MiddlesShort z i
-  middles-short short = subst (MiddlesShort z) (sym is) (λ j g.
-      middle-le z (inRun z (extensionIndices z x) _ 0) _ _ j
-      (run-short z destinations marks x h refl refl (x / 2 ^ z .candidate .sets / 2 ^ z .reference .sets % 2 ^ z .candidate .sets * 2 ^ z .reference .sets + x / 2 ^ z .candidate .sets % 2 ^ z .reference .sets) 0 (run-lt z x) (pow-pos (z .candidate .sets)) short j g))
+    one-line : {d e : List ℕ} {at k : ℕ} → Wrote d at (lineText (extensionOf z x w F)) e k → Extensions z destinations marks position d at e k (position + 1)
+    unfolding each
+    one-line {d} {e} {at} {k} v = record {
+      count = 1;
+      within = omega arith;
+      text = subst (λ t. Wrote d at t e k) (ap lineText (clause-is ∙ ap (extensionAt z destinations marks) (omega arith)) ∙ sym (append-nil _)) v;
+      next = refl;
+    }
 
-  module _ {w F : ℕ} (w-is : w ≡ getD destinations (i .v .0 * 16 + i .l) 0) (F-is : F ≡ getD marks (i .v .0 * 16 + i .l) 0) {e k : ℕ} (l : e < z .candidate .subsets * z .reference .subsets) (g : k < 2 ^ z .candidate .sets)
-      {y : Indices} (q : y ≡ inRun z i e k) where
-    run-at : y ≡ inRun z (extensionIndices z x) e k
-    run-at = q ∙ ap (λ i. inRun z i e k) is
-
-    e-lt : e < 2 ^ z .candidate .sets * 2 ^ z .reference .sets
-    e-lt = runs-here (tables .fits) l
-
-    w-at : w ≡ getD destinations (extensionIndices z x .v .0 * 16 + extensionIndices z x .l) 0
-    w-at = w-is ∙ ap (λ i. getD destinations (i .v .0 * 16 + i .l) 0) is
-
-    F-at : F ≡ getD marks (extensionIndices z x .v .0 * 16 + extensionIndices z x .l) 0
-    F-at = F-is ∙ ap (λ i. getD marks (i .v .0 * 16 + i .l) 0) is
-
-    run-within : Within z y
-    run-within =
-        let h = indices-within in
-        let (i-lt, j-lt, e-is) = split e (2 ^ z .candidate .sets) (2 ^ z .reference .sets) e-lt in
-        subst (Within z) (sym q)
-        (record { q-lt = h .q-lt; p-lt = h .p-lt; t-lt = h .t-lt; u-lt = h .u-lt; v-lt = h .v-lt; l-lt = h .l-lt; i-lt = i-lt; j-lt = j-lt; k-lt = g })
-
-    run-kept : {kept sizes : List ℕ} {count : ℕ} → Kept z i kept sizes count → Kept z y kept sizes count
-    run-kept {kept} {sizes} {count} s = subst (λ y. Kept z y kept sizes count) (sym q) (λ j l. record { size = s j l .size; text = s j l .text })
-
-    run-marks : (w < z .reference .states) × (F < 2 ^ z .reference .sets)
-    run-marks = (rw w-is (tables .step-lt _ _ (indices-within .v-lt) (indices-within .l-lt)), rw F-is (tables .marks-lt _ _ (indices-within .v-lt) (indices-within .l-lt)))
-
-    run-lines-short : ExtensionsShort z destinations marks → RunShort z y w F
-    run-lines-short short = subst (λ y. RunShort z y w F) (sym run-at) (run-short z destinations marks x h w-at F-at e k e-lt g short)
-
-    -- what a run is asked for
-    pub run-ready : {kept sizes : List ℕ} {count : ℕ} → Kept z i kept sizes count → ExtensionsShort z destinations marks
-        → (Fitting z × Within z y × Kept z y kept sizes count) × ((w < z .reference .states) × (F < 2 ^ z .reference .sets) × RunShort z y w F)
-    run-ready s short = ((tables .fits, run-within, run-kept s), (run-marks .0, run-marks .1, run-lines-short short))
-
-    pub run-more : {d : List ℕ} {at : ℕ} {b : List ℕ} {position to : ℕ} {f : List ℕ} {r : ℕ} → AtRun z destinations marks x d at b e k position to
-        → Wrote b to (runText z y w F (2 ^ z .candidate .sets - y .k)) f r → AtRun z destinations marks x d at f (e + 1) 0 (position + (z .candidate .subsets - k)) r
-    run-more {b} {position} {to} {f} {r} s v =
-        let m = 2 ^ z .candidate .sets in
-        let done = run-extensions z destinations marks x h w-at F-at e k e-lt g (subst (λ y. Wrote b to (runText z y w F (2 ^ z .candidate .sets - y .k)) f r) run-at v) in
-        let here : blockAt z x e k ≡ position = sym (s .place) in
-        let there : blockAt z x e k + (m - k) ≡ position + (z .candidate .subsets - k) = omega (arith, s .place, tables .fits .candidate-subsets) in
-        record {
-          lines = extensions-then (s .lines) (subst₂ (λ p q. Extensions z destinations marks p b to f r q) here there done);
-          place = omega (arith, s .place, tables .fits .candidate-subsets);
-          e-le = omega (arith, e-lt);
-          k-lt = pow-pos (z .candidate .sets);
-        }
-
--- all runs of the block are written, so at least one
-pub runs-past : {z : Sizes} {destinations marks : List ℕ} {x : ℕ} {d : List ℕ} {at : ℕ} {f : List ℕ} {e k position to : ℕ} → AtRun z destinations marks x d at f e k position to
-    → e ≡ 2 ^ z .candidate .sets * 2 ^ z .reference .sets → at < to
-runs-past {z} {x} {e} {k} s q =
-    let M = 2 ^ z .candidate .sets in
-    let S = 2 ^ z .reference .sets in
-    extensions-some (s .lines)
-    (omega (arith, s .place, block-own z x, q, digits-lt {q = x / M / S / M * (M * S) + (x / M / S % M * S + x / M % S)} {m = x / M / S / M * (M * S) + e} {r = x % M} {c = M} (omega (arith, run-lt z x, q)) (mod-lt x (pow-pos (z .candidate .sets)))))
+    pub line-more : {from : ℕ} {d : List ℕ} {at : ℕ} {e f heads headSizes middles middleSizes lasts lastSizes : List ℕ} {to r : ℕ} {y : Indices}
+        → Extensions z destinations marks from d at e to position → Wrote e to (lineText (extensionOf z x w F)) f r → Follows z x y
+        → Kept (pathTexts z true (x .q .0) (x .u .0) (x .p .0)) 16 4096 heads headSizes → Kept (middleTexts z (x .p .0) (x .t .0)) 80 256 middles middleSizes
+        → Kept (pathTexts z false (x .q .0) (x .u .0) (x .t .0)) 16 4096 lasts lastSizes
+        → AtBlock z destinations marks from d at f heads headSizes middles middleSizes lasts lastSizes y (position + 1) r
+    line-more {heads} {headSizes} {middles} {middleSizes} {lasts} {lastSizes} s v g a b c = record {
+      lines = extensions-then s (one-line v);
+      here = λ l. g .next position h is l;
+      some = λ l. omega (arith, s .next);
+      heads-kept = rw (g .same-q, g .same-u, g .same-p) a;
+      middles-kept = rw (g .same-p, g .same-t) b;
+      lasts-kept = rw (g .same-q, g .same-u, g .same-t) c;
+    }
 
 -- ---- the lines of group 3 are lines of the file
 
--- the test that fails where there is room and x is a position of group 3
-pub room-in-group : (room x before third : ℕ) → ((ltb room 1280 || ltb x before) || leb (before + third) x) ≡ false → (1280 ≤ room) × (before ≤ x) × (x < before + third)
-room-in-group room x before third e =
-    let (p, q) = or-false (ltb room 1280 || ltb x before) (leb (before + third) x) e in
-    let (r, s) = or-false (ltb room 1280) (ltb x before) p in
-    (ltb-false room 1280 r, ltb-false x before s, leb-false (before + third) x q)
+-- the test that fails where x is a position of group 3
+pub in-group : (x before third : ℕ) → (ltb x before || leb (before + third) x) ≡ false → (before ≤ x) × (x < before + third)
+in-group x before third e = let (p, q) = or-false (ltb x before) (leb (before + third) x) e in (ltb-false x before p, leb-false (before + third) x q)
 
 module _ (z : Sizes) (start : ℕ) (destinations marks : List ℕ) {g : Extent} (tables : Tables z destinations marks) (k : ExtentOf z g) where
   abbrev T : Task

@@ -1,73 +1,69 @@
--- The positions of group 3 by blocks and runs: over a block all indices but I, J and K stay, over a run all but K. What the functions that
--- write its lines keep and leave in the buffer.
+-- The positions of group 3 by blocks: over a block q, p, t and u stay. The literals of a clause, whose texts are kept over a block, and what is
+-- written.
 use mathlib.Core.Path.{_≡_}
+use mathlib.Core.Bool.{Bool, true, false}
 use mathlib.Core.List.{List, [], _∷_}
-use Prim.Native.Nat.{ℕ, _+_, _-_, _*_, _/_, _%_, _^_, _≤_, _<_}
+use Prim.Native.Nat.{ℕ, _+_, _*_, _/_, _%_, _^_, _≤_, _<_}
 use lib.IntN.{ℤ, pos, negℤ}
-use lib.ListN.{length, getD, take, drop}
+use lib.ListN.{length}
 use Rattle.encoding.specs.Variables.{step, path}
-use Rattle.encoding.specs.Clauses.{each, _∪_}
+use Rattle.encoding.specs.Clauses.{each}
 use Rattle.decimal.specs.Wrote.{Wrote}
 use Rattle.variables.specs.declared.sizes.Sizes.{Sizes}
 use Rattle.variables.specs.Numbers.{numberOf}
 use Rattle.clause_list.specs.declared.groups.Indices.{Indices}
-use Rattle.clause_list.specs.Groups.{marksOf, extensionOf}
-use Rattle.clause_list.specs.Indices.{extensions}
+use Rattle.clause_list.specs.Groups.{marksOf}
+use Rattle.clause_list.specs.Indices.{extensions, extensionIndices}
 use Rattle.clause_list.specs.Position.{extensionAt}
 use Rattle.clause_text.specs.Text.{lineText, linesText}
 use Rattle.clause_text.specs.Pieces.{spacedText}
 
--- x with another K
-abbrev pub withSet : Indices → ℕ → Indices
-withSet x k = record { q = x .q; p = x .p; t = x .t; u = x .u; v = x .v; l = x .l; i = x .i; j = x .j; k = k }
+abbrev pub signed : Bool → ℕ → ℤ
+signed true k = negℤ (pos k)
+signed false k = pos k
 
 module _ (z : Sizes) where
-  -- x with the sets of run e of its block, where e counts I and J, and another K
-  abbrev pub inRun : Indices → (e k : ℕ) → Indices
-  inRun x e k = record {
-    q = x .q;
-    p = x .p;
-    t = x .t;
-    u = x .u;
-    v = x .v;
-    l = x .l;
-    i = e / 2 ^ z .reference .sets;
-    j = e % 2 ^ z .reference .sets;
-    k = k;
-  }
+  abbrev M : ℕ
+  M = 2 ^ z .candidate .sets
 
-  -- ---- the pieces of a clause: the first stays over a run, the second over a block for each K
+  abbrev S : ℕ
+  S = 2 ^ z .reference .sets
 
-  abbrev pub headOf : Indices → ℤ
-  headOf x = negℤ (pos (numberOf z (path (x .q .0) (x .u .0) (x .p .0) (x .v .0) (x .i) (x .j))))
+  -- ---- the literals of a clause: the first, those in the middle, and the last
 
-  abbrev pub middleOf : Indices → ℕ → List ℤ
-  middleOf x k = negℤ (pos (numberOf z (step (x .p .0) (x .l) (x .t .0)))) ∷ marksOf z (x .p .0) (x .l) (x .t .0) k (z .candidate .sets)
+  -- path(q, u, p, v, I, J) or its negative
+  abbrev pub pathLiteral : Bool → (q u p v I J : ℕ) → ℤ
+  pathLiteral minus q u p v I J = signed minus (numberOf z (path q u p v I J))
 
-  abbrev pub lastOf : Indices → (w F k : ℕ) → ℤ
-  lastOf x w F k = pos (numberOf z (path (x .q .0) (x .u .0) (x .t .0) w (x .i ∪ k) (x .j ∪ F)))
+  -- -step(p, l, t) and the marks of p, l, t against K
+  abbrev pub middleOf : (p t l K : ℕ) → List ℤ
+  middleOf p t l K = negℤ (pos (numberOf z (step p l t))) ∷ marksOf z p l t K (z .candidate .sets)
 
-  -- ---- what is kept
+  -- ---- their slots, and the text of each slot
 
-  -- the text of the middle literals for k stands in slot k, which has 80 bytes, and so many bytes it has
-  pub record Slot (x : Indices) (kept sizes : List ℕ) (k : ℕ) : Type 0 where
-    pub size : getD sizes k 0 ≡ length (spacedText (middleOf x k))
-    pub text : take (length (spacedText (middleOf x k))) (drop (k * 80) kept) ≡ spacedText (middleOf x k)
+  abbrev pub pathSlot : (v I J : ℕ) → ℕ
+  pathSlot v I J = (v * M + I) * S + J
 
-  abbrev pub Kept : Indices → (kept sizes : List ℕ) (count : ℕ) → Type 0
-  Kept x kept sizes count = (k : ℕ) → k < count → Slot x kept sizes k
+  abbrev pub pathTexts : Bool → (q u p : ℕ) → ℕ → List ℕ
+  pathTexts minus q u p k = spacedText (pathLiteral minus q u p (k / S / M) (k / S % M) (k % S) ∷ [])
 
-  abbrev pub MiddlesShort : Indices → Type 0
-  MiddlesShort x = (k : ℕ) → k < 2 ^ z .candidate .sets → length (spacedText (middleOf x k)) ≤ 80
+  abbrev pub middleSlot : (l K : ℕ) → ℕ
+  middleSlot l K = l * M + K
+
+  abbrev pub middleTexts : (p t : ℕ) → ℕ → List ℕ
+  middleTexts p t k = spacedText (middleOf p t (k / M) (k % M))
+
+  -- ---- the order of a block
+
+  -- y has the indices of the position after x's, if that position lies in the same block; otherwise y's v is no state
+  pub record Follows (x y : Indices) : Type 0 where
+    pub same-q : y .q ≡ x .q
+    pub same-p : y .p ≡ x .p
+    pub same-t : y .t ≡ x .t
+    pub same-u : y .u ≡ x .u
+    pub next : (k : ℕ) → k < extensions z → x ≡ extensionIndices z k → y .v .0 < z .reference .states → (k + 1 < extensions z) × (y ≡ extensionIndices z (k + 1))
 
   -- ---- what is written
-
-  -- the lines of a run from x on, so many
-  abbrev pub runText : Indices → (w F count : ℕ) → List ℕ
-  runText x w F count = linesText (each count (λ o. extensionOf z (withSet x (x .k + o)) w F ∷ []))
-
-  abbrev pub RunShort : Indices → (w F : ℕ) → Type 0
-  RunShort x w F = (k : ℕ) → k < 2 ^ z .candidate .sets → length (lineText (extensionOf z (withSet x k) w F)) ≤ 80
 
   module _ (destinations marks : List ℕ) where
     abbrev pub ExtensionsShort : Type 0

@@ -1,6 +1,7 @@
 pub mod Text
 pub mod Pieces
 pub mod LineLength
+pub mod Kept
 pub mod Blocks
 pub mod Filling
 pub mod Answers

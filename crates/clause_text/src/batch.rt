@@ -1,6 +1,10 @@
 // The next line, and as many as fit. The reference has been tested: nothing here looks at it again.
 use crate::block::block_lines;
 use crate::copying::copy;
+use crate::keeping::MIDDLE_BYTES;
+use crate::keeping::MIDDLES;
+use crate::keeping::PATH_BYTES;
+use crate::keeping::PATHS;
 use crate::writing::write_line;
 use automaton::Automaton;
 use automaton::states::ReferenceState;
@@ -98,8 +102,29 @@ pub fn fill(
 {
     let mut x = from;
     let mut at: usize = 0;
+    let mut heads = [0u8; PATH_BYTES];
+    let mut head_sizes = [0u8; PATHS];
+    let mut middles = [0u8; MIDDLE_BYTES];
+    let mut middle_sizes = [0u8; MIDDLES];
+    let mut lasts = [0u8; PATH_BYTES];
+    let mut last_sizes = [0u8; PATHS];
     loop {
-        let next = more_lines(z, g, start, destinations, marks, x, text, at);
+        let next = more_lines(
+            z,
+            g,
+            start,
+            destinations,
+            marks,
+            x,
+            &mut heads,
+            &mut head_sizes,
+            &mut middles,
+            &mut middle_sizes,
+            &mut lasts,
+            &mut last_sizes,
+            text,
+            at,
+        );
         x = next.position;
         if next.end == at {
             return Filled {
@@ -119,6 +144,12 @@ fn more_lines(
     destinations: &[u8; Automaton::CELLS],
     marks: &[u8; Automaton::CELLS],
     from: usize,
+    heads: &mut [u8; PATH_BYTES],
+    head_sizes: &mut [u8; PATHS],
+    middles: &mut [u8; MIDDLE_BYTES],
+    middle_sizes: &mut [u8; MIDDLES],
+    lasts: &mut [u8; PATH_BYTES],
+    last_sizes: &mut [u8; PATHS],
     text: &mut [u8],
     at: usize,
 ) -> Filled
@@ -131,11 +162,23 @@ fn more_lines(
         return next_line_if_room(z, g, start, destinations, marks, from, text, at);
     }
     let before = g.first + g.second;
-    // A run has at most 16 lines.
-    if (room < 1280) | (from < before) | (from >= before + g.third) {
+    if (from < before) | (from >= before + g.third) {
         return next_line(z, g, start, destinations, marks, from, text, at);
     }
-    let filled = block_lines(z, destinations, marks, from - before, text, at);
+    let filled = block_lines(
+        z,
+        destinations,
+        marks,
+        from - before,
+        heads,
+        head_sizes,
+        middles,
+        middle_sizes,
+        lasts,
+        last_sizes,
+        text,
+        at,
+    );
     Filled {
         end: filled.end,
         position: before + filled.position,

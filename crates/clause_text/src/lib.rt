@@ -20,6 +20,8 @@ ghost use Rattle.clause_text.specs.Answers.{LineStepped, LineFound, Batc
 mod batch;
 mod block;
 mod copying;
+mod keeping;
+mod order;
 mod writing;
 
 // The bytes that a clause line may want.

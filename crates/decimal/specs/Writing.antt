@@ -46,6 +46,16 @@ module _ {A : Type 0} where
       ap (λ l. take n (drop b l)) (p .is) ∙ part-of-front (take at d) (w ++ drop r d) b n l ∙ sym (part-of-front (take at d) (drop at d) b n l)
       ∙ ap (λ l. take n (drop b l)) (take-append-drop at d)
 
+  -- and so does what stands after it
+  pub wrote-after : {d : List A} {at : ℕ} {w e : List A} {r : ℕ} → Wrote d at w e r → (b n : ℕ) → r ≤ b → take n (drop b e) ≡ take n (drop b d)
+  wrote-after {d} {at} {w} {e} {r} p b n h =
+      let front : length (take at d ++ w) ≡ r = length-append (take at d) w ∙ omega (arith, p .next, p .room, length-take at d) in
+      let rest : drop r e ≡ drop r d =
+      ap (drop r) (p .is ∙ sym (append-assoc (take at d) w (drop r d))) ∙ drop-at (take at d ++ w) (drop r d) r front in
+      let far : r + (b - r) ≡ b = omega arith in
+      ap (take n)
+      (ap (λ k. drop k e) (sym far) ∙ sym (drop-drop (b - r) r e) ∙ ap (drop (b - r)) rest ∙ drop-drop (b - r) r d ∙ ap (λ k. drop k d) far)
+
   -- what was written is read at its place, and so at the start of a buffer
   pub wrote-here : {d : List A} {at : ℕ} {w e : List A} {r : ℕ} → Wrote d at w e r → take (length w) (drop at e) ≡ w
   wrote-here {d} {at} {w} {r} p =

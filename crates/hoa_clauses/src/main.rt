@@ -9,6 +9,10 @@ use console::output;
 use numerals::Number;
 use report::lines::LINE;
 use text_places::Place;
+ghost use mathlib.Core.Path.{_≡_};
+ghost use mathlib.Core.Bool.{true};
+ghost use Prim.Native.Nat.{_<_};
+ghost use Rattle.hoa_clauses.specs.Left.{left};
 
 fn main() {
     if os::arg_count() != 3 {
@@ -49,17 +53,15 @@ fn print_header(variables: u64, clauses: u64) {
     output::print_line(&line, length);
 }
 
-// The turns count down, since nothing says here that the clauses end.
+// Each batch leaves fewer clauses.
 fn print_clauses(reference: Automaton, n: usize, m: usize) {
     let mut position: u64 = 0;
-    let mut turns = u64::MAX;
-    while turns > 0 {
+    loop {
         let next = print_batch(reference, n, m, position);
         if !next.more {
             return;
         }
         position = next.position;
-        turns -= 1;
     }
 }
 
@@ -69,7 +71,9 @@ struct Next {
 }
 
 // As many lines as a buffer holds.
-fn print_batch(reference: Automaton, n: usize, m: usize, position: u64) -> Next {
+fn print_batch(reference: Automaton, n: usize, m: usize, position: u64) -> Next
+    ensures { λ r. ⌜ (r .more ≡ true → left reference n m (r .position) < left reference n m position) ⌝ }
+{
     let mut text = io::large_buffer();
     let handed = lines(reference, n, m, position, &mut text);
     let answer = handed.answer;

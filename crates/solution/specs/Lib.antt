@@ -12,4 +12,5 @@ pub mod Spelling
 pub mod Table
 pub mod Agreement
 pub mod Pieces
+pub mod Further
 pub mod Stated

@@ -87,7 +87,7 @@ within-piece t s o h g =
     ∙ ap (λ n. after (after first t) (take (o - n) s)) e
     ∙ sym (ap (after first) (take-past t s o g) ∙ after-append first t (take (o - length t) s))
 
-feeds-append : (s t : List ℕ) → feeds (s ++ t) ≡ feeds s + feeds t
+pub feeds-append : (s t : List ℕ) → feeds (s ++ t) ≡ feeds s + feeds t
 feeds-append [] t = omega arith
 feeds-append (b ∷ s) t = omega (arith, feeds-append s t)
 

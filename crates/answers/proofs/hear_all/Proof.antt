@@ -1,13 +1,14 @@
--- `hear_all` is safe and ends: the turns count down.
-use native.Mathlib.Omega.{arith}
+-- `hear_all` meets its contract, and ends: fewer bytes can come with each piece.
+use Rattle.answers.specs.SoFar.{SoFar}
+use Rattle.answers.proofs.Further.{heard-first, heard-next, ahead, ahead-falls}
 use Rattle.answers.proofs.hear_all.Statement.{statement}
 use Rattle.answers.proofs.hear_all.Tie as tie
 
 abbrev Inv-loop : tie.InvT-loop
-Inv-loop fd name reference n m heard₀ turns₀ heard turns = Unit {0}
+Inv-loop fd name reference n m heard₀ heard = SoFar reference n m heard
 
 abbrev μ-loop : tie.MeasureT-loop
-μ-loop fd name reference n m heard₀ turns₀ heard turns = turns
+μ-loop fd name reference n m heard₀ heard = ahead heard
 
 fresh-requires : tie.Need-fresh-requires Inv-loop μ-loop
 fresh-requires c κs = tt
@@ -22,25 +23,19 @@ hear-requires : tie.Need-hear-requires Inv-loop μ-loop
 hear-requires c κs = tt
 
 loop-holds : tie.Need-loop-holds Inv-loop μ-loop
-loop-holds c = tt
-
-returns : tie.Need-returns Inv-loop μ-loop
-returns c = tt
+loop-holds c = heard-first _ (c .before .before .before .fresh .ensures) (c .before .before .first .ensures) (c .hear .ensures)
 
 hear-some-requires : tie.Need-hear-some-requires Inv-loop μ-loop
 hear-some-requires c κs = tt
 
-sub-turns : tie.Need-sub-turns Inv-loop μ-loop
-sub-turns c = omega arith
-
 loop-less : tie.Need-loop-less Inv-loop μ-loop
-loop-less c = omega arith
+loop-less c = ahead-falls (c .before .loop-test .taken) (c .before .before .loop .inv) (c .hear-some .ensures)
 
 loop-again : tie.Need-loop-again Inv-loop μ-loop
-loop-again c = tt
+loop-again c = heard-next (c .before .loop-test .taken) (c .before .before .loop .inv) (c .hear-some .ensures)
 
-returns-2 : tie.Need-returns-2 Inv-loop μ-loop
-returns-2 c = tt
+returns : tie.Need-returns Inv-loop μ-loop
+returns c = c .before .loop .inv
 
 pub hear-all-spec : {M : Type 1} → statement M
 hear-all-spec =
@@ -53,9 +48,7 @@ hear-all-spec =
     first-requires-2
     hear-requires
     loop-holds
-    returns
     hear-some-requires
-    sub-turns
     loop-less
     loop-again
-    returns-2)
+    returns)

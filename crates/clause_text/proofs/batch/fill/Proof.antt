@@ -12,30 +12,30 @@ use Rattle.clause_text.proofs.batch.fill.Statement.{statement}
 use Rattle.clause_text.proofs.batch.fill.Tie as tie
 
 abbrev Inv-loop : tie.InvT-loop
-Inv-loop z g start destinations marks from text₀ x₀ at₀ text x at = Lines (taskOf z (start .0) destinations marks) (numberOf z) from text₀ 0 text at x
+Inv-loop z g start destinations marks from text₀ x₀ at₀ heads₀ head-sizes₀ middles₀ middle-sizes₀ lasts₀ last-sizes₀ text x at heads head-sizes middles middle-sizes lasts last-sizes = Lines (taskOf z (start .0) destinations marks) (numberOf z) from text₀ 0 text at x
 
 abbrev μ-loop : tie.MeasureT-loop
-μ-loop z g start destinations marks from text₀ x₀ at₀ text x at = length text₀ - at
+μ-loop z g start destinations marks from text₀ x₀ at₀ heads₀ head-sizes₀ middles₀ middle-sizes₀ lasts₀ last-sizes₀ text x at heads head-sizes middles middle-sizes lasts last-sizes = length text₀ - at
 
 loop-holds : tie.Need-loop-holds Inv-loop μ-loop
 loop-holds c = lines-none _ _ _ _ _ (omega arith)
 
 more-lines-requires : tie.Need-more-lines-requires Inv-loop μ-loop
-more-lines-requires c κs = (c .before .before .before .pre .0, (c .before .before .before .pre .1, lines-room (c .before .loop .inv)))
+more-lines-requires c κs = (c .before .before .before .before .before .before .before .before .before .pre .0, (c .before .before .before .before .before .before .before .before .before .pre .1, lines-room (c .before .before .before .before .before .before .before .loop .inv)))
 
 same-length : tie.Need-same-length Inv-loop μ-loop
-same-length c = wrote-length (c .before .before .before .before .more-lines .ensures .lines .text) ∙ wrote-length (c .before .before .before .before .before .before .loop .inv .text)
+same-length c = wrote-length (c .before .before .before .before .more-lines .ensures .lines .text) ∙ wrote-length (c .before .before .before .before .before .before .before .before .before .before .before .before .loop .inv .text)
 
 returns : tie.Need-returns Inv-loop μ-loop
 returns c =
-    let (lines, stop) = lines-filled (c .before .before .before .before .before .before .loop .inv) (c .before .before .before .before .more-lines .ensures) (c .if1 .taken) in
+    let (lines, stop) = lines-filled (c .before .before .before .before .before .before .before .before .before .before .before .before .loop .inv) (c .before .before .before .before .more-lines .ensures) (c .if1 .taken) in
     record { lines = lines; stop = stop }
 
 loop-less : tie.Need-loop-less Inv-loop μ-loop
-loop-less c = omega (arith, c .if1 .left, c .before .before .before .before .more-lines .ensures .lines .text .next, c .before .before .before .before .more-lines .ensures .lines .text .room, wrote-length (c .before .before .before .before .before .before .loop .inv .text))
+loop-less c = omega (arith, c .if1 .left, c .before .before .before .before .more-lines .ensures .lines .text .next, c .before .before .before .before .more-lines .ensures .lines .text .room, wrote-length (c .before .before .before .before .before .before .before .before .before .before .before .before .loop .inv .text))
 
 loop-again : tie.Need-loop-again Inv-loop μ-loop
-loop-again c = lines-then (c .before .before .before .before .before .before .loop .inv) (c .before .before .before .before .more-lines .ensures .lines)
+loop-again c = lines-then (c .before .before .before .before .before .before .before .before .before .before .before .before .loop .inv) (c .before .before .before .before .more-lines .ensures .lines)
 
 pub fill-spec : {M : Type 1} → statement M
 fill-spec =

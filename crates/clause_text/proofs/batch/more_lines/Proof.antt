@@ -3,7 +3,7 @@ use mathlib.Core.Path.{refl}
 use Prim.Native.Nat.{_+_, _-_}
 use lib.ListN.{length}
 use Rattle.clause_text.proofs.Batches.{line-further, room-further}
-use Rattle.clause_text.proofs.Blocks.{room-in-group, extensions-short, extensions-further}
+use Rattle.clause_text.proofs.Blocks.{in-group, extensions-short, extensions-further}
 use borrow.Author.Needs.{needs}
 use native.Mathlib.Omega.{arith}
 use Rattle.clause_text.proofs.batch.more_lines.Statement.{statement}
@@ -40,30 +40,30 @@ sub-block-lines : tie.Need-sub-block-lines
 sub-block-lines c =
     let s = c .before .before .before .before .before in
     let g = s .args .g in
-    room-in-group (length (s .args .text .now) - s .args .at) (s .args .from) (g .first + g .second) (g .third) (c .if2 .left) .1
+    in-group (s .args .from) (g .first + g .second) (g .third) (c .if2 .left) .0
 
 block-lines-requires : tie.Need-block-lines-requires
 block-lines-requires c κs =
-    let s = c .before .before .before .before .before .before in
+    let s = c .before .before .before .before .before .before .before .before .before .before .before .before in
     let g = s .args .g in
-    let (room, from, to) = room-in-group (length (s .args .text .now) - s .args .at) (s .args .from) (g .first + g .second) (g .third) (c .before .if2 .left) in
-    (s .pre .0 .0, (extensions-short (s .args .z) (s .args .start .0) _ _ (s .pre .0 .0) (s .pre .1 .0) (s .pre .0 .1), (omega (arith, from, to, s .pre .1 .0 .third-is), omega (arith, room, s .pre .1 .1))))
+    let (from, to) = in-group (s .args .from) (g .first + g .second) (g .third) (c .before .before .before .before .before .before .before .if2 .left) in
+    (s .pre .0 .0, (extensions-short (s .args .z) (s .args .start .0) _ _ (s .pre .0 .0) (s .pre .1 .0) (s .pre .0 .1), (omega (arith, from, to, s .pre .1 .0 .third-is), omega (arith, s .pre .1 .1, c .before .before .before .before .before .before .before .before .before .before .if1 .left))))
 
-add-t12 : tie.Need-add-t12
-add-t12 c = search needs
+add-t18 : tie.Need-add-t18
+add-t18 c = let (lines, some) = c .before .before .before .block-lines .ensures in let k = c .before .before .before .before .before .before .before .before .before .before .before .before .before .before .before .before .pre .1 .0 in omega (arith, lines .next, lines .within, k .third-is, k .all-is, k .all-le)
 
 same-length-3 : tie.Need-same-length-3
 same-length-3 c = search needs
 
 returns-3 : tie.Need-returns-3
 returns-3 c =
-    let s = c .before .before .before .before .before .before .before .before .before .before in
+    let s = c .before .before .before .before .before .before .before .before .before .before .before .before .before .before .before .before in
     let g = s .args .g in
-    let (room, from, to) = room-in-group (length (s .args .text .now) - s .args .at) (s .args .from) (g .first + g .second) (g .third) (c .before .before .before .before .before .if2 .left) in
+    let (from, to) = in-group (s .args .from) (g .first + g .second) (g .third) (c .before .before .before .before .before .before .before .before .before .before .before .if2 .left) in
     let (lines, some) = c .before .before .before .block-lines .ensures in
     extensions-further (s .args .z) (s .args .start .0) _ _ (s .pre .0 .0) (s .pre .1 .0) lines (s .args .from) _ (omega (arith, from)) refl some
 
 pub more-lines-spec : {M : Type 1} → statement M
 more-lines-spec =
     tie.close
-    (tie.spec sub-room next-line-if-room-requires same-length returns add-before add-if2 next-line-requires same-length-2 returns-2 sub-block-lines block-lines-requires add-t12 same-length-3 returns-3)
+    (tie.spec sub-room next-line-if-room-requires same-length returns add-before add-if2 next-line-requires same-length-2 returns-2 sub-block-lines block-lines-requires add-t18 same-length-3 returns-3)

@@ -1,31 +1,48 @@
 -- `block_lines` meets its contract.
-use mathlib.Core.Path.{refl}
-use Rattle.clause_text.proofs.Blocks.{middles-short}
+use Rattle.clause_text.proofs.Slots.{kept-none}
 use borrow.Author.Needs.{needs}
+use native.Mathlib.Omega.{arith}
 use Rattle.clause_text.proofs.block.block_lines.Statement.{statement}
 use Rattle.clause_text.proofs.block.block_lines.Tie as tie
 
+forget-requires : tie.Need-forget-requires
+forget-requires c κs = tt
+
+forget-requires-2 : tie.Need-forget-requires-2
+forget-requires-2 c κs = tt
+
+forget-requires-3 : tie.Need-forget-requires-3
+forget-requires-3 c κs = tt
+
 extension-indices-requires : tie.Need-extension-indices-requires
-extension-indices-requires c κs = search needs
+extension-indices-requires c κs = let s = c .before .before .before .before .before .before .before in (s .pre .0 .fits, s .pre .1 .1 .0)
 
-keep-middles-requires : tie.Need-keep-middles-requires
-keep-middles-requires c κs =
-    let s = c .before .before .before .before in
-    let x = c .before .before .extension-indices .ensures in
-    ((s .pre .0 .fits, x .1, middles-short (s .pre .0) (s .args .from) (s .pre .1 .1 .0) (c .before .before .extension-indices .result) (x .0) (s .pre .1 .0)), refl)
-
-runs-requires : tie.Need-runs-requires
-runs-requires c κs =
-    let s = c .before .before .before .before .before .before .before .before in
-    (s .pre .0, (s .pre .1 .0, ((s .pre .1 .1 .0, c .before .before .before .before .before .before .extension-indices .ensures .0, c .before .before .before .keep-middles .ensures), s .pre .1 .1 .1)))
+lines-from-requires : tie.Need-lines-from-requires
+lines-from-requires c κs =
+    let s = c .before .before .before .before .before .before .before .before .before .before .before .before .before .before .before in (
+      s .pre .0,
+      (
+        s .pre .1 .0,
+        (
+          (s .pre .1 .1 .0, c .before .before .before .before .before .before .before .extension-indices .ensures .0, s .pre .1 .1 .1),
+          (
+            kept-none (omega (arith, c .before .before .before .before .before .before .before .before .before .before .before .before .forget .kept .0, c .before .before .before .before .before .before .before .before .before .before .before .before .before .forget-arg .given .0)) (c .before .before .before .before .before .before .before .before .before .before .before .before .forget .ensures),
+            (
+              kept-none (omega (arith, c .before .before .before .before .before .before .before .before .before .before .forget2 .kept .0, c .before .before .before .before .before .before .before .before .before .before .before .forget-arg2 .given .0)) (c .before .before .before .before .before .before .before .before .before .before .forget2 .ensures),
+              kept-none (omega (arith, c .before .before .before .before .before .before .before .before .forget3 .kept .0, c .before .before .before .before .before .before .before .before .before .forget-arg3 .given .0)) (c .before .before .before .before .before .before .before .before .forget3 .ensures),
+            ),
+          ),
+        ),
+      ),
+    )
 
 same-length : tie.Need-same-length
 same-length c = search needs
 
 returns : tie.Need-returns
-returns c = search needs
+returns c = c .before .before .lines-from .ensures
 
 pub block-lines-spec : {M : Type 1} → statement M
 block-lines-spec =
     tie.close
-    (tie.spec extension-indices-requires keep-middles-requires runs-requires same-length returns)
+    (tie.spec forget-requires forget-requires-2 forget-requires-3 extension-indices-requires lines-from-requires same-length returns)

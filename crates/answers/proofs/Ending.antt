@@ -1,0 +1,62 @@
+-- What is told at the end of the text, and the place of its refusal.
+use mathlib.Core.Path.{_≡_, sym, ap, _∙_, subst}
+use mathlib.Core.List.{List, []}
+use Prim.Native.Nat.{ℕ, _≤_}
+use native.Mathlib.Omega.{arith}
+use Rattle.automaton.specs.declared.Automaton.{Automaton}
+use Rattle.automaton.specs.declared.refusal.Refusal.{Refusal}
+use Rattle.automaton.specs.declared.refusal.Refusal.the-variants.{SolverForm, Literal}
+use Rattle.automaton.specs.Refused.{codeOf}
+use Rattle.solution.specs.Machine.{refusedAt}
+use Rattle.solution.specs.Calls.{last, kept}
+use Rattle.solution.specs.Cases.{by}
+use Rattle.solution.specs.Pieces.{joined}
+use Rattle.decode.specs.declared.Answer.the-variants.{Refused as TurnedDown}
+use Rattle.decode.specs.Answers.{Decodes}
+use Rattle.text_places.specs.Places.{within, placeOf}
+use Rattle.answers.specs.declared.Heard.{Heard}
+use Rattle.answers.specs.declared.Told.{Told}
+use Rattle.answers.specs.FromPieces.{FromPieces}
+use Rattle.answers.specs.SoFar.{SoFar, endedAt}
+use Rattle.answers.proofs.Offsets.{Counted, From, end-stays, end-from}
+use Rattle.answers.proofs.Places.{place-stable, place-end, from-end, within-again}
+use Rattle.answers.proofs.Answered.{ByText, by-text}
+use Rattle.answers.proofs.Further.{counted}
+
+module _ {a : Automaton} {n m : ℕ} {h : Heard} (s : SoFar a n m h) {p p′ l l′ : List ℕ} (t : Told) (d : Decodes p p′ l l′ (t .decoded) a n m (h .reader))
+    (u : List ℕ) (nil : u ≡ []) (e : t .place ≡ endedAt (t .decoded .answer) (h .place) u) where
+  abbrev text : List ℕ
+  text = joined (s .pieces)
+
+  abbrev at : ℕ
+  at = h .reader .scan .at
+
+  ended-place : (f : Refusal) → ByText a n m (h .reader) f → within (h .place) [] (codeOf f .first) ≡ placeOf (joined (s .pieces)) (codeOf f .first)
+  ended-place f b =
+      let o : ℕ = codeOf f .first in
+      let c : Counted text (h .reader .scan) = counted (b .valid) (b .sizes) (s .reads) in
+      let start = ap (λ q. within q [] o) (s .placed (b .valid) (b .sizes)) in
+      by (refusedAt (h .reader .scan .place))
+      (λ g.
+      let same : at ≡ o = sym (b .offset ∙ ap (λ x. x .scan .at) (end-stays (last a n m) (kept a n m) (h .reader) g)) in
+      start ∙ ap (λ q. within (placeOf text q) [] o) same ∙ within-again text o (omega (arith, same, c .inside)) (omega (arith, same, c .limit)))
+      (λ g.
+      let from : From text o = subst (From text) (sym (b .offset)) (end-from (last a n m) (kept a n m) text (h .reader) c g) in
+      start ∙ ap (λ q. within (placeOf text q) [] o) (c .all g) ∙ ap (λ q. within q [] o) (place-end text)
+      ∙ from-end text o (omega (arith, c .all g, c .limit)) from)
+
+  told-place : (f : Refusal) → 9 ≤ codeOf f .number → codeOf f .number ≤ 10 → t .decoded .answer ≡ TurnedDown f
+      → t .place ≡ placeOf (joined (s .pieces)) (codeOf f .first)
+  told-place f low high is =
+      place-stable _ _ (λ never. by-text d f is low high (λ b.
+      never (e ∙ ap (λ w. endedAt w (h .place) u) is ∙ ap (λ v. within (h .place) v (codeOf f .first)) nil ∙ ended-place f b)))
+
+  pub told-pieces : FromPieces p p′ l l′ t a n m
+  told-pieces = record {
+    pieces = s .pieces;
+    reader = h .reader;
+    reads = s .reads;
+    decodes = d;
+    form-place = λ o. told-place (SolverForm o) (omega arith) (omega arith);
+    literal-place = λ o. told-place (Literal o) (omega arith) (omega arith);
+  }

@@ -1,0 +1,6 @@
+pub mod Offsets
+pub mod Places
+pub mod Replies
+pub mod Answered
+pub mod Further
+pub mod Ending

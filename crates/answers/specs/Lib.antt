@@ -1,0 +1,3 @@
+pub mod FromPieces
+pub mod SoFar
+pub mod Whole

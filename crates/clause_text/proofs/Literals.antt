@@ -1,0 +1,117 @@
+-- The slots of literals: their numbers, their texts, one more that is kept, and one that is copied.
+use mathlib.Core.Path.{_≡_, sym, ap, ap₂, _∙_, subst}
+use mathlib.Core.Bool.{Bool, true, false}
+use mathlib.Core.List.{List, [], _∷_}
+use Prim.Native.Nat.{ℕ, _+_, _*_, _^_, _≤_, _<_}
+use native.Mathlib.Nat.{mul-le-mul}
+use native.Mathlib.Omega.{arith}
+use lib.IntN.{ℤ, pos, negℤ}
+use lib.ListN.{length, set, take, drop, length-append}
+use lib.Pow.{pow-mono}
+use lib.Arith.{digits-lt, digits-div, digits-mod}
+use Rattle.encoding.specs.Variables.{path}
+use Rattle.decimal.specs.Wrote.{Wrote}
+use Rattle.decimal.specs.Writing.{wrote-length, wrote-front}
+use Rattle.variables.specs.declared.sizes.Sizes.{Sizes}
+use Rattle.variables.specs.Sizes.{Fitting}
+use Rattle.variables.specs.Limits.{candidate-subsets-le, reference-subsets-le}
+use Rattle.variables.specs.Numbers.{InFile, Numbered}
+use Rattle.clause_list.specs.declared.groups.Indices.{Indices}
+use Rattle.clause_list.specs.Groups.{Within, premiseOf}
+use Rattle.clause_text.specs.Text.{literalText}
+use Rattle.clause_text.specs.LineLength.{literal-le, abs-negated}
+use Rattle.clause_text.specs.Pieces.{spacedText}
+use Rattle.clause_text.specs.Blocks.{signed, pathLiteral, middleOf, pathSlot, pathTexts, middleSlot, middleTexts}
+use Rattle.clause_text.specs.Kept.{Kept, Found}
+use Rattle.clause_text.proofs.Slots.{kept-more, found-text}
+
+module _ (z : Sizes) where
+  abbrev M : ℕ
+  M = 2 ^ z .candidate .sets
+
+  abbrev S : ℕ
+  S = 2 ^ z .reference .sets
+
+  -- a slot has the text that it is for
+  pub path-text : (minus : Bool) (q u p v I J : ℕ) → I < M → J < S → pathTexts z minus q u p (pathSlot z v I J) ≡ spacedText (pathLiteral z minus q u p v I J ∷ [])
+  path-text minus q u p v I J hi hj = simp (digits-div, digits-mod)
+
+  pub middle-text : (p t l K : ℕ) → K < M → middleTexts z p t (middleSlot z l K) ≡ spacedText (middleOf z p t l K)
+  middle-text p t l K hk = simp (digits-div, digits-mod)
+
+  module _ (f : Fitting z) where
+    pub path-slot-lt : {v I J : ℕ} → v < z .reference .states → I < M → J < S → pathSlot z v I J < 4096
+    path-slot-lt {v} {I} {J} hv hi hj =
+        omega (arith, digits-lt (digits-lt hv hi) hj, mul-le-mul (mul-le-mul (f .r-le) (pow-mono {j = 4} (f .m-le))) (pow-mono {j = 4} (f .s-le)))
+
+    pub middle-slot-lt : {l K : ℕ} → l < z .letters → K < M → middleSlot z l K < 256
+    middle-slot-lt hl hk = omega (arith, digits-lt hl hk, mul-le-mul (f .letters-le) (pow-mono {j = 4} (f .m-le)))
+
+-- ---- their texts
+
+pub signed-le : (minus : Bool) (k : ℕ) → k ≤ 4_199_424 → length (spacedText (signed minus k ∷ [])) ≤ 9
+signed-le true k h = omega (arith, length-append (literalText (negℤ (pos k))) (32 ∷ []), literal-le (negℤ (pos k)) (omega (arith, abs-negated k)))
+signed-le false k h = omega (arith, length-append (literalText (pos k)) (32 ∷ []), literal-le (pos k) (omega arith))
+
+-- the middle literals, from the premise's second on
+pub middle-read : (z : Sizes) (x : Indices) {d e : List ℤ} {r : ℕ} → Wrote d 0 (premiseOf z x) e r
+    → (1 ≤ r) × (r ≤ length e) × (spacedText (drop 1 (take r e)) ≡ spacedText (middleOf z (x .p .0) (x .t .0) (x .l) (x .k)))
+middle-read z x w = (omega (arith, w .next), omega (arith, w .room, wrote-length w), ap (λ c. spacedText (drop 1 c)) (wrote-front w))
+
+-- ---- one more literal is kept, or one is copied
+
+module _ (z : Sizes) (f : Fitting z) where
+  -- the slot as the code counts it
+  pub path-slot-is : (v I J : ℕ) → (v * z .candidate .subsets + I) * z .reference .subsets + J ≡ pathSlot z v I J
+  path-slot-is v I J = ap₂ (λ a b. (v * a + I) * b + J) (f .candidate-subsets) (f .reference-subsets)
+
+  pub middle-slot-is : (l K : ℕ) → l * z .candidate .subsets + K ≡ middleSlot z l K
+  middle-slot-is l K = ap (λ a. l * a + K) (f .candidate-subsets)
+
+  pub states-le : {v : ℕ} → v < z .reference .states → v * z .candidate .subsets ≤ 256
+  states-le h = mul-le-mul {n₂ = 16} (omega (arith, f .r-le)) (candidate-subsets-le f)
+
+  pub sets-le : {a : ℕ} → a ≤ 272 → a * z .reference .subsets ≤ 4352
+  sets-le h = mul-le-mul h (reference-subsets-le f)
+
+  pub letters-le : {l : ℕ} → l < z .letters → l * z .candidate .subsets ≤ 256
+  letters-le h = mul-le-mul {n₂ = 16} (omega (arith, f .letters-le)) (candidate-subsets-le f)
+
+module _ {z : Sizes} (f : Fitting z) (minus : Bool) {q u p v I J slot : ℕ} (here : InFile z (path q u p v I J)) (is : slot ≡ pathSlot z v I J) where
+  pub slot-lt : slot < 4096
+  slot-lt = rw is (path-slot-lt z f (here .3) (here .4) (here .5))
+
+  pub slot-text : pathTexts z minus q u p slot ≡ spacedText (pathLiteral z minus q u p v I J ∷ [])
+  slot-text = ap (pathTexts z minus q u p) is ∙ path-text z minus q u p v I J (here .4) (here .5)
+
+  pub path-kept : {variable r : ℕ} {kept sizes g : List ℕ} → Numbered z (path q u p v I J) variable → Kept (pathTexts z minus q u p) 16 4096 kept sizes
+      → Wrote kept (slot * 16) (spacedText (signed minus variable ∷ [])) g (slot * 16 + r) → Found (pathTexts z minus q u p) 16 4096 g (set sizes slot r) slot r
+  path-kept {variable} {r} {kept} {g} num s w =
+      let same : spacedText (signed minus variable ∷ []) ≡ pathTexts z minus q u p slot = ap (λ k. spacedText (signed minus k ∷ [])) (num .is) ∙ sym slot-text in
+      kept-more s slot-lt (omega (arith, ap length same, signed-le minus variable (num .small))) (subst (λ t. Wrote kept (slot * 16) t g (slot * 16 + r)) same w)
+
+  module _ {kept sizes : List ℕ} {size : ℕ} (s : Found (pathTexts z minus q u p) 16 4096 kept sizes slot size) where
+    pub path-size : size ≡ length (spacedText (pathLiteral z minus q u p v I J ∷ []))
+    path-size = s .size ∙ ap length slot-text
+
+    pub path-copied : {d e : List ℕ} {at r : ℕ} → Wrote d at (take size (drop (slot * 16) kept)) e r → Wrote d at (spacedText (pathLiteral z minus q u p v I J ∷ [])) e r
+    path-copied {d} {e} {at} {r} w = subst (λ t. Wrote d at t e r) (found-text s ∙ slot-text) w
+
+module _ {z : Sizes} (f : Fitting z) {x : Indices} {slot : ℕ} (h : Within z x) (is : slot ≡ middleSlot z (x .l) (x .k)) where
+  pub middle-lt : slot < 256
+  middle-lt = rw is (middle-slot-lt z f (h .l-lt) (h .k-lt))
+
+  pub middle-slot-text : middleTexts z (x .p .0) (x .t .0) slot ≡ spacedText (middleOf z (x .p .0) (x .t .0) (x .l) (x .k))
+  middle-slot-text = ap (middleTexts z (x .p .0) (x .t .0)) is ∙ middle-text z (x .p .0) (x .t .0) (x .l) (x .k) (h .k-lt)
+
+  pub middle-kept : {r : ℕ} {kept sizes g : List ℕ} → length (spacedText (middleOf z (x .p .0) (x .t .0) (x .l) (x .k))) ≤ 80 → Kept (middleTexts z (x .p .0) (x .t .0)) 80 256 kept sizes
+      → Wrote kept (slot * 80) (spacedText (middleOf z (x .p .0) (x .t .0) (x .l) (x .k))) g (slot * 80 + r) → Found (middleTexts z (x .p .0) (x .t .0)) 80 256 g (set sizes slot r) slot r
+  middle-kept {r} {kept} {g} short s w =
+      kept-more s middle-lt (omega (arith, ap length middle-slot-text, short)) (subst (λ t. Wrote kept (slot * 80) t g (slot * 80 + r)) (sym middle-slot-text) w)
+
+  module _ {kept sizes : List ℕ} {size : ℕ} (s : Found (middleTexts z (x .p .0) (x .t .0)) 80 256 kept sizes slot size) where
+    pub middle-size : size ≡ length (spacedText (middleOf z (x .p .0) (x .t .0) (x .l) (x .k)))
+    middle-size = s .size ∙ ap length middle-slot-text
+
+    pub middle-copied : {d e : List ℕ} {at r : ℕ} → Wrote d at (take size (drop (slot * 80) kept)) e r → Wrote d at (spacedText (middleOf z (x .p .0) (x .t .0) (x .l) (x .k))) e r
+    middle-copied {d} {e} {at} {r} w = subst (λ t. Wrote d at t e r) (found-text s ∙ middle-slot-text) w

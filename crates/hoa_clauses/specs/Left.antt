@@ -1,0 +1,35 @@
+-- The clauses that are left from a position on. Each batch of lines leaves fewer, so that the batches end.
+use mathlib.Core.Path.{_≡_, ap, subst}
+use mathlib.Core.List.{List}
+use Prim.Native.Nat.{ℕ, zero, suc, _≤_, _<_}
+use native.Mathlib.Omega.{arith}
+use lib.IntN.{ℤ}
+use lib.ListN.{length, take, length-drop}
+use Rattle.automaton.specs.declared.Automaton.{Automaton}
+use Rattle.automaton.specs.View.{view}
+use Rattle.encoding.specs.Variables.{base, base-number}
+use Rattle.clause_list.specs.Next.{clauses-from}
+use Rattle.clauses.specs.declared.Answer.the-variants.{Written}
+use Rattle.clauses.specs.declared.Handed.{Handed}
+use Rattle.clause_text.specs.Text.{linesText}
+use Rattle.clause_text.specs.Answers.{BatchAnswers, BatchStepped}
+
+abbrev from : Automaton → ℕ → ℕ → ℕ → List (List ℤ)
+from a n m x = clauses-from (base (view a) n m) (base-number (view a) n m) x
+
+abbrev pub left : Automaton → ℕ → ℕ → ℕ → ℕ
+left a n m x = length (from a n m x)
+
+-- a text that is not empty is that of one line at least
+some-lines : (count : ℕ) (cs : List (List ℤ)) → 1 ≤ length (linesText (take count cs)) → 1 ≤ count
+some-lines zero cs h = h
+some-lines (suc count) cs h = omega arith
+
+pub fewer-left : (a : Automaton) (n m x : ℕ) (d e : List ℕ) (r : Handed) (k : ℕ) → BatchStepped a n m x d e r → r .answer ≡ Written k
+    → left a n m (r .position) < left a n m x
+fewer-left a n m x d e r k s is = go (subst (λ w. BatchAnswers a n m x d e w (r .position)) is s)
+  where
+    go : BatchAnswers a n m x d e (Written k) (r .position) → left a n m (r .position) < left a n m x
+    go (ok, (f, h)) =
+        let some : 1 ≤ f .lines .count = some-lines (f .lines .count) (from a n m x) (omega (arith, f .lines .text .next)) in
+        omega (arith, some, f .lines .there, ap length (f .lines .next), length-drop (f .lines .count) (from a n m x))
