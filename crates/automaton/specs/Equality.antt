@@ -1,18 +1,17 @@
 -- EQUAL AUTOMATA ARE EQUAL VALUES: two values in "The automaton" with the same counts, names, transitions and marks are one.
 use mathlib.Core.Path.{_≡_, sym, ap, _∙_, subst}
 use mathlib.Core.Logic.{_⊎_, inl, inr}
-use mathlib.Core.Bool.{Bool}
-use mathlib.Core.List.{List}
-use Prim.Native.Nat.{ℕ, _+_, _*_, _/_, _%_, _^_, _≤_, _<_}
+use Prim.Native.Nat.{ℕ, _^_, _≤_, _<_}
 use native.Mathlib.Decide.{decLt}
 use native.Mathlib.Omega.{arith}
 use lib.ListN.{length, getD}
 use lib.Seq.{ext-getD}
-use Rattle.meaning.specs.BitSet.{has, has-same}
+use Rattle.meaning.specs.BitSet.{has-same}
 use Rattle.automaton.specs.declared.Automaton.{Automaton}
 use Rattle.automaton.specs.Value.{Valid, letters, destination, markSet, name, nameLength, nameByte}
 use Rattle.automaton.specs.View.{view}
 use Rattle.automaton.specs.Names.{slot-length, slot-byte}
+use Rattle.automaton.specs.Rows.{rows-equal}
 
 -- the same view, as far as there are states, letters and sets, and the same names
 pub record Same (a b : Automaton) : Type 0 where
@@ -23,15 +22,6 @@ pub record Same (a b : Automaton) : Type 0 where
   pub steps : (q l : ℕ) → q < a .states → l < letters a → view a .step q l ≡ view b .step q l
   pub marks : (q l i : ℕ) → q < a .states → l < letters a → i < a .sets → view a .marks q l i ≡ view b .marks q l i
   pub names : (i : ℕ) → i < a .propositions → name a i ≡ name b i
-
-place : (k : ℕ) → k / 16 * 16 + k % 16 ≡ k
-place k = omega arith
-
--- lists of rows of 16 that are equal row by row
-rows-equal : (xs ys : List ℕ) (n : ℕ) → length xs ≡ n * 16 → length ys ≡ n * 16
-    → ((i j : ℕ) → i < n → j < 16 → getD xs (i * 16 + j) 0 ≡ getD ys (i * 16 + j) 0) → xs ≡ ys
-rows-equal xs ys n size-x size-y h = ext-getD 0 xs ys (size-x ∙ sym size-y)
-    (λ k g. subst (λ j. getD xs j 0 ≡ getD ys j 0) (place k) (h (k / 16) (k % 16) (omega (arith, size-x)) (omega arith)))
 
 module _ {a b : Automaton} (v : Valid a) (w : Valid b) (s : Same a b) where
   same-letters : letters a ≡ letters b

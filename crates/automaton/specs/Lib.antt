@@ -1,6 +1,12 @@
 pub mod Value
+pub mod Rows
+pub mod Powers
 pub mod View
 pub mod Refused
 pub mod Names
 pub mod Equality
 pub mod Tests
+pub mod Passes
+pub mod TableTest
+pub mod NameTest
+pub mod Meant

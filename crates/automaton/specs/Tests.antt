@@ -1,5 +1,5 @@
 -- The test of a value, as the functions of src/ make it. What it means is `Valid`.
-use mathlib.Core.Bool.{Bool, true, false, not, cond, _&&_}
+use mathlib.Core.Bool.{Bool, not, cond, _&&_}
 use mathlib.Core.List.{List}
 use Prim.Native.Nat.{ℕ, _+_, _*_, _/_, _%_, _^_, min}
 use lib.Dec.{ltb, leb, eqb}

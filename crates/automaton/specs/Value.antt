@@ -2,11 +2,22 @@
 use mathlib.Core.Path.{_≡_}
 use mathlib.Core.Logic.{_≢_, _⊎_}
 use mathlib.Core.Bool.{Bool, not, _&&_}
-use mathlib.Core.List.{List}
-use Prim.Native.Nat.{ℕ, _+_, _*_, _^_, _≤_, _<_}
+use mathlib.Core.List.{List, [], _∷_}
+use Prim.Native.Nat.{ℕ, _+_, _*_, _/_, _%_, _^_, _≤_, _<_}
 use lib.Dec.{leb, eqb}
 use lib.ListN.{length, getD, take, drop, replicate}
+use Rattle.meaning.specs.Counting.{each}
 use Rattle.automaton.specs.declared.Automaton.{Automaton}
+
+-- ---- arrays
+
+-- the numbers f 0, f 1, .., n of them
+abbrev pub table : ℕ → (ℕ → ℕ) → List ℕ
+table n f = each n (λ i. f i ∷ [])
+
+-- n rows of 16
+abbrev pub rows : ℕ → (ℕ → ℕ → ℕ) → List ℕ
+rows n f = table (n * 16) (λ i. f (i / 16) (i % 16))
 
 -- ---- what a value holds
 

@@ -1,6 +1,5 @@
 -- DEFINITION: a value as an automaton of `meaning`. A value in "The automaton" is well formed.
-use mathlib.Core.Path.{_≡_, refl}
-use Prim.Native.Nat.{ℕ}
+use mathlib.Core.Path.{refl}
 use Rattle.meaning.specs.Tests.{all, all-same}
 use Rattle.meaning.specs.BitSet.{has}
 use Rattle.meaning.specs.Automata.{Aut, WellFormed, EverySet}

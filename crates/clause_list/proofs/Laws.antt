@@ -1,19 +1,19 @@
 -- Literals written one after another into a buffer.
 use mathlib.Core.Path.{_≡_, refl, sym, ap, _∙_, subst, subst₂}
 use mathlib.Core.Logic.{_≢_}
-use mathlib.Core.Bool.{true, false}
 use mathlib.Core.List.{List, [], _∷_, _++_}
-use Prim.Native.Nat.{ℕ, zero, suc, _+_, _/_, _%_, _^_, _≤_, _<_}
+use Prim.Native.Nat.{ℕ, _+_, _/_, _%_, _^_, _≤_, _<_}
 use native.Mathlib.Nat.{mul-one}
 use native.Mathlib.Numerals.{add-one}
 use native.Mathlib.Omega.{arith}
+use borrow.Author.Tests.{eq-eqb, ne-eqb}
 use lib.IntN.{ℤ, pos, negℤ}
 use lib.Signed.{mag}
 use lib.ListN.{length, set, length-set}
 use mir.Syntax.{w32}
 use mir.Val.{toZ, ofZ}
 use mir.ValLaws.{toZ-ofZ}
-use Rattle.meaning.specs.BitSet.{digit}
+use Rattle.meaning.specs.BitSet.{has-test}
 use Rattle.encoding.specs.Variables.{mark}
 use Rattle.encoding.specs.Clauses.{each}
 use Rattle.encoding.specs.Loops.{each-length}
@@ -65,20 +65,12 @@ wrote-three {d} h p q s = wrote-after (wrote-second {d = d} (omega arith) p q) (
 
 -- ---- the marks
 
-bit-digit : (x : ℕ) → x ≡ 1 → digit x ≡ true
-bit-digit x e = ap digit e
-
-not-digit : (x : ℕ) → x < 2 → x ≢ 1 → digit x ≡ false
-not-digit zero h e = refl
-not-digit (suc zero) h e = absurd (e refl)
-not-digit (suc (suc x)) h e = absurd (omega arith)
-
 module _ (z : Sizes) (p l t K i : ℕ) where
   pub mark-negative : K / 2 ^ i % 2 ≡ 1 → negℤ (pos (numberOf z (mark p l i t))) ≡ markLiteral z p l t K i
-  mark-negative e = rw (bit-digit (K / 2 ^ i % 2) e)
+  mark-negative e = rw (sym (has-test K i) ∙ eq-eqb (K / 2 ^ i % 2) 1 e)
 
   pub mark-positive : K / 2 ^ i % 2 ≢ 1 → pos (numberOf z (mark p l i t)) ≡ markLiteral z p l t K i
-  mark-positive e = rw (not-digit (K / 2 ^ i % 2) (omega arith) e)
+  mark-positive e = rw (sym (has-test K i) ∙ ne-eqb (K / 2 ^ i % 2) 1 e)
 
 pub marks-length : (z : Sizes) (p l t K k : ℕ) → length (marksOf z p l t K k) ≡ k
 marks-length z p l t K k = each-length k 1 _ (λ i h. refl) ∙ mul-one k

@@ -12,6 +12,7 @@ use Rattle.automaton.specs.View.{view}
 use Rattle.encoding.specs.Variables.{Task, base, base-number}
 use Rattle.variables.specs.declared.sizes.Sizes.{Sizes}
 use Rattle.variables.specs.Sizes.{Dimensioned, Fitting, sizesOf}
+use Rattle.variables.specs.Measured.{Measured}
 use Rattle.variables.specs.Numbers.{counted, numberOf}
 use Rattle.variables.specs.Limits.{sizes-fit}
 
@@ -38,12 +39,6 @@ pub record Tables (z : Sizes) (destinations marks : List ℕ) : Type 0 where
   pub fits : Fitting z
   pub step-lt : StepsWithin z destinations
   pub marks-lt : (u l : ℕ) → u < z .reference .states → l < z .letters → getD marks (u * 16 + l) 0 < 2 ^ z .reference .sets
-
--- z are the sizes of a file for the reference a
-pub record Measured (a : Automaton) (z : Sizes) : Type 0 where
-  pub valid : Valid a
-  pub dimensioned : Dimensioned (z .candidate .states) (z .candidate .sets)
-  pub sized : z ≡ sizesOf a (z .candidate .states) (z .candidate .sets)
 
 tables-fit : {a : Automaton} {n m : ℕ} → Valid a → Dimensioned n m → Tables (sizesOf a n m) (a .destinations) (a .marks)
 tables-fit v d = record { fits = sizes-fit v d; step-lt = v .destination-lt; marks-lt = v .marks-lt }

@@ -9,7 +9,8 @@ use Rattle.automaton.specs.declared.Automaton.{Automaton}
 use Rattle.automaton.specs.declared.refusal.Refusal.{Refusal}
 use Rattle.variables.specs.declared.sizes.Sizes.{Sizes}
 use Rattle.variables.specs.Numbers.{numberOf}
-use Rattle.clause_list.specs.Tables.{taskOf, Measured, measured-task, measured-number}
+use Rattle.variables.specs.Measured.{Measured}
+use Rattle.clause_list.specs.Tables.{taskOf, measured-task, measured-number}
 use Rattle.clause_list.specs.Next.{next-clause}
 use Rattle.clauses.specs.declared.Answer.{Answer}
 use Rattle.clauses.specs.declared.Answer.the-variants.{Written, Ended, Refused}

@@ -6,7 +6,6 @@ use Prim.Native.Nat.{ℕ, zero, suc, _+_, _-_, _*_, _^_, _≤_, _<_}
 use native.Mathlib.Nat.{mul-one, mul-le-mul}
 use native.Mathlib.Omega.{arith}
 use borrow.Author.Tests.{ltb-false, leb-false}
-use lib.Bits.{or-lt}
 use lib.Dec.{ltb, leb}
 use lib.IntN.{ℤ}
 use lib.ListN.{length, getD, take, drop, length-append}
@@ -18,7 +17,7 @@ use Rattle.encoding.specs.Clauses.{each, _∪_}
 use Rattle.encoding.specs.Loops.{each-same, each-add, each-length}
 use Rattle.encoding.specs.Positions.{positions, at-position}
 use Rattle.decimal.specs.Wrote.{Wrote}
-use Rattle.decimal.specs.Writing.{wrote-none, wrote-then, wrote-length}
+use Rattle.decimal.specs.Writing.{wrote-none, wrote-then}
 use Rattle.variables.specs.declared.sizes.Sizes.{Sizes}
 use Rattle.variables.specs.Sizes.{Fitting}
 use Rattle.variables.specs.Numbers.{numberOf}
@@ -29,7 +28,7 @@ use Rattle.clause_list.specs.Groups.{Within, extensionOf}
 use Rattle.clause_list.specs.Indices.{extensions, extensionIndices, extension-within}
 use Rattle.clause_list.specs.Position.{extensionAt, ExtentOf}
 use Rattle.clause_list.specs.Standing.{at-extension}
-use Rattle.clause_list.specs.Next.{handed, clauses-from}
+use Rattle.clause_list.specs.Next.{clauses-from}
 use Rattle.clause_list.specs.Following.{next-here}
 use Rattle.clause_text.specs.Text.{lineText, linesText}
 use Rattle.clause_text.specs.Pieces.{spacedText, closing, line-pieces}

@@ -1,6 +1,6 @@
--- THE BATCHES GIVE THE FILE'S LINES, over every list of calls from the fresh position.
+-- THE FILE'S LINES, over every list of calls for lines and for batches from the fresh position.
 use mathlib.Core.Path.{_≡_, refl, sym, ap, ap₂, _∙_, subst}
-use mathlib.Core.Logic.{_⊎_, ⊎-elim}
+use mathlib.Core.Logic.{⊎-elim}
 use mathlib.Core.List.{List, [], _∷_, _++_, append-assoc, List·Memᴰ, List·Memᴰ·cases-cons, List·Memᴰ·not-nil, cons≢nil}
 use Prim.Native.Nat.{ℕ, _≤_}
 use native.Mathlib.Omega.{arith}
@@ -12,17 +12,18 @@ use Rattle.automaton.specs.View.{view}
 use Rattle.encoding.specs.Variables.{base, base-number}
 use Rattle.decimal.specs.Writing.{wrote-front}
 use Rattle.variables.specs.Sizes.{Dimensioned}
-use Rattle.clause_list.specs.Next.{clauses-from}
-use Rattle.clause_list.specs.Following.{from-start}
+use Rattle.clause_list.specs.Next.{Found, clauses-from}
+use Rattle.clause_list.specs.Following.{First, next-first, from-start, position-of}
 use Rattle.clauses.specs.declared.Answer.{Answer}
 use Rattle.clauses.specs.declared.Answer.the-variants.{Written, Ended, Refused}
-use Rattle.clauses.specs.Step.{Accepted, last-position}
-use Rattle.clauses.specs.Range.{positions-le}
+use Rattle.clauses.specs.declared.Handed.{Handed}
+use Rattle.clauses.specs.Step.{found-from, last-position}
+use Rattle.clauses.specs.Range.{positions-le, stays-in-range}
 use Rattle.clauses.specs.Refusals.{turned-down-short, Stays, refused-from}
 use Rattle.clause_text.specs.Text.{lineText, linesText}
 use Rattle.clause_text.specs.LineLength.{left-line-le}
-use Rattle.clause_text.specs.Answers.{BatchAnswers, Batch}
-use Rattle.clause_text.specs.Batches.{BatchCall, BatchCalls, bytes, all-bytes, LinesOut}
+use Rattle.clause_text.specs.Answers.{LineAnswers, BatchAnswers, Batch}
+use Rattle.clause_text.specs.Batches.{TextStepped, TextCall, TextCalls, bytes, all-bytes, LinesOut}
 
 -- the lines of clauses and of those after them
 pub lines-append : (bs cs : List (List ℤ)) → linesText (bs ++ cs) ≡ linesText bs ++ linesText cs
@@ -41,62 +42,88 @@ module _ (a : Automaton) (n m : ℕ) where
       ap₂ (λ t cs. t ++ linesText cs) (wrote-front (f .lines .text)) (f .lines .next)
       ∙ sym (lines-append (take (f .lines .count) (rest x)) (drop (f .lines .count) (rest x))) ∙ ap linesText (take-append-drop (f .lines .count) (rest x))
 
-  -- one call: what it writes, and what is left after it
-  one-call : (x : ℕ) (b : Answer) (y : ℕ) (d e : List ℕ) → BatchAnswers a n m x d e b y → bytes b e ++ left-from y ≡ left-from x
-  one-call x (Written k) y d e (ok, (f, some)) = batch-lines f
-  one-call x Ended y d e (ok, f) = batch-lines f
-  one-call x (Refused f) y d e (t, p, w) = ap left-from p
+  -- one call for a batch: what it writes, and what is left after it
+  batch-left : (x : ℕ) (b : Answer) (y : ℕ) (d e : List ℕ) → BatchAnswers a n m x d e b y → bytes b e ++ left-from y ≡ left-from x
+  batch-left x (Written k) y d e (ok, (f, some)) = batch-lines f
+  batch-left x Ended y d e (ok, f) = batch-lines f
+  batch-left x (Refused f) y d e (t, p, w) = ap left-from p
+
+  -- and one for a line
+  first-is : (x : ℕ) {f : Found} → found-from a n m x ≡ f → First (base (view a) n m) (base-number (view a) n m) (rest x) f
+  first-is x e = subst (First (base (view a) n m) (base-number (view a) n m) (rest x)) e (next-first (base (view a) n m) (base-number (view a) n m) x)
+
+  line-left : (x : ℕ) (b : Answer) (y : ℕ) (d e : List ℕ) → LineAnswers a n m x d e b y → bytes b e ++ left-from y ≡ left-from x
+  line-left x (Written k) y d e (ok, (c, f, w)) = ap (λ t. t ++ left-from y) (wrote-front w) ∙ ap linesText (sym (first-is x f))
+  line-left x Ended y d e (ok, (f, w)) = let (now-none, then-none) = first-is x f in ap linesText (then-none ∙ sym now-none)
+  line-left x (Refused f) y d e (t, p, w) = ap left-from p
+
+  one-call : (x : ℕ) (d e : List ℕ) (r : Handed) → TextStepped a n m x d e r → bytes (r .answer) e ++ left-from (r .position) ≡ left-from x
+  one-call x d e r = ⊎-elim (line-left x (r .answer) (r .position) d e) (batch-left x (r .answer) (r .position) d e)
 
   -- after "ended" nothing is left, and nothing was
-  ended-left : (x : ℕ) (b : Answer) (y : ℕ) (d e : List ℕ) → BatchAnswers a n m x d e b y → b ≡ Ended → left-from x ≡ []
-  ended-left x b y d e s q = go (subst (λ b. BatchAnswers a n m x d e b y) q s)
+  batch-ended : (x : ℕ) (y : ℕ) (d e : List ℕ) → BatchAnswers a n m x d e Ended y → left-from x ≡ []
+  batch-ended x y d e (ok, f) = sym (batch-lines f) ∙ none
     where
       -- a line has at most 80 bytes, and so many there are
-      none : Accepted 80 (length d) a n m x → Batch a n m x d e 0 y → left-from y ≡ []
-      none ok f = ⊎-elim (λ g. ap linesText g) (λ g. absurd (omega (arith, ok .room, g .long, left-line-le (ok .valid) (ok .dimensioned) y (g .next)))) (f .stop)
+      none : left-from y ≡ []
+      none = ⊎-elim (λ g. ap linesText g) (λ g. absurd (omega (arith, ok .room, g .long, left-line-le (ok .valid) (ok .dimensioned) y (g .next)))) (f .stop)
 
-      go : BatchAnswers a n m x d e Ended y → left-from x ≡ []
-      go (ok, f) = sym (one-call x Ended y d e (ok, f)) ∙ none ok f
+  ended-left : (x : ℕ) (d e : List ℕ) (r : Handed) → TextStepped a n m x d e r → r .answer ≡ Ended → left-from x ≡ []
+  ended-left x d e r s q =
+      ⊎-elim (λ l. let (ok, (f, w)) = subst (λ b. LineAnswers a n m x d e b (r .position)) q l in ap linesText (first-is x f .0))
+      (λ b. batch-ended x (r .position) d e (subst (λ b. BatchAnswers a n m x d e b (r .position)) q b)) s
 
-  abbrev after-all : ℕ → List BatchCall → ℕ
+  abbrev after-all : ℕ → List TextCall → ℕ
   after-all x [] = x
   after-all x (c ∷ cs) = after-all (c .result .position) cs
 
-  calls-lines : (x : ℕ) (cs : List BatchCall) → BatchCalls a n m x cs → all-bytes cs ++ left-from (after-all x cs) ≡ left-from x
+  calls-lines : (x : ℕ) (cs : List TextCall) → TextCalls a n m x cs → all-bytes cs ++ left-from (after-all x cs) ≡ left-from x
   calls-lines x [] k = refl
   calls-lines x (c ∷ cs) (e, s, k) =
       append-assoc (bytes (c .result .answer) (c .after)) (all-bytes cs) (left-from (after-all (c .result .position) cs))
       ∙ ap (λ t. bytes (c .result .answer) (c .after) ++ t) (calls-lines (c .result .position) cs k)
-      ∙ one-call x (c .result .answer) (c .result .position) (c .before) (c .after) s
+      ∙ one-call x (c .before) (c .after) (c .result) s
 
   -- where nothing is left, nothing is written any more
   nothing-more : (s t : List ℕ) → s ++ t ≡ [] → s ≡ []
   nothing-more [] t e = refl
   nothing-more (x ∷ s) t e = absurd (cons≢nil e)
 
-  calls-whole : (x : ℕ) (cs : List BatchCall) → BatchCalls a n m x cs → (c : BatchCall) → List·Memᴰ c cs → c .result .answer ≡ Ended → all-bytes cs ≡ left-from x
+  calls-whole : (x : ℕ) (cs : List TextCall) → TextCalls a n m x cs → (c : TextCall) → List·Memᴰ c cs → c .result .answer ≡ Ended → all-bytes cs ≡ left-from x
   calls-whole x [] k c j q = absurd (List·Memᴰ·not-nil j)
   calls-whole x (b ∷ bs) (e, s, k) c j q =
       ⊎-elim
       (λ g.
-      let none = ended-left x (b .result .answer) (b .result .position) (b .before) (b .after) s (ap (λ c. c .result .answer) (sym g) ∙ q) in
+      let none = ended-left x (b .before) (b .after) (b .result) s (ap (λ c. c .result .answer) (sym g) ∙ q) in
       nothing-more (all-bytes (b ∷ bs)) _ (calls-lines x (b ∷ bs) (e, s, k) ∙ none) ∙ sym none)
       (λ j. ap (λ t. bytes (b .result .answer) (b .after) ++ t) (calls-whole (b .result .position) bs k c j q)
-      ∙ one-call x (b .result .answer) (b .result .position) (b .before) (b .after) s)
+      ∙ one-call x (b .before) (b .after) (b .result) s)
       (List·Memᴰ·cases-cons j)
 
   -- one call, for the lemma on refusals
-  stays : Valid a → Dimensioned n m → (x : ℕ) (d e : List ℕ) (b : Answer) (y : ℕ) → x ≤ last-position → BatchAnswers a n m x d e b y → Stays 80 x d e b y
-  stays v i x d e (Written k) y h (ok, (f, some)) = f .lines .within last-position (positions-le v i) h
-  stays v i x d e Ended y h (ok, f) = f .lines .within last-position (positions-le v i) h
-  stays v i x d e (Refused f) y h (t, p, w) = (turned-down-short v i h t, p, w)
+  module _ (v : Valid a) (i : Dimensioned n m) where
+    batch-stays : (x : ℕ) (d e : List ℕ) (b : Answer) (y : ℕ) → x ≤ last-position → BatchAnswers a n m x d e b y → Stays 80 x d e b y
+    batch-stays x d e (Written k) y h (ok, (f, some)) = f .lines .within last-position (positions-le v i) h
+    batch-stays x d e Ended y h (ok, f) = f .lines .within last-position (positions-le v i) h
+    batch-stays x d e (Refused f) y h (t, p, w) = (turned-down-short v i h t, p, w)
 
-pub lines-out : {a : Automaton} {n m : ℕ} → Valid a → Dimensioned n m → (cs : List BatchCall) → BatchCalls a n m 0 cs → LinesOut a n m cs
+    found-stays : (x : ℕ) {f : Found} → x ≤ last-position → found-from a n m x ≡ f → position-of (base (view a) n m) (base-number (view a) n m) f ≤ last-position
+    found-stays x h e = subst (λ f. position-of (base (view a) n m) (base-number (view a) n m) f ≤ last-position) e (stays-in-range v i x h)
+
+    line-stays : (x : ℕ) (d e : List ℕ) (b : Answer) (y : ℕ) → x ≤ last-position → LineAnswers a n m x d e b y → Stays 80 x d e b y
+    line-stays x d e (Written k) y h (ok, (c, f, w)) = found-stays x h f
+    line-stays x d e Ended y h (ok, (f, w)) = found-stays x h f
+    line-stays x d e (Refused f) y h (t, p, w) = (turned-down-short v i h t, p, w)
+
+    stays : (x : ℕ) (d e : List ℕ) (r : Handed) → x ≤ last-position → TextStepped a n m x d e r → Stays 80 x d e (r .answer) (r .position)
+    stays x d e r h = ⊎-elim (line-stays x d e (r .answer) (r .position) h) (batch-stays x d e (r .answer) (r .position) h)
+
+pub lines-out : {a : Automaton} {n m : ℕ} → Valid a → Dimensioned n m → (cs : List TextCall) → TextCalls a n m 0 cs → LinesOut a n m cs
 lines-out {a} {n} {m} v i cs k =
     let start = ap linesText (from-start (base (view a) n m) (base-number (view a) n m)) in
     record {
       left = linesText (clauses-from (base (view a) n m) (base-number (view a) n m) (after-all a n m 0 cs));
       begins = calls-lines a n m 0 cs k ∙ start;
       whole = λ c j q. calls-whole a n m 0 cs k c j q ∙ start;
-      refused = refused-from (λ x d e r. stays a n m v i x d e (r .answer) (r .position)) 0 cs (omega arith) k;
+      refused = refused-from (stays a n m v i) 0 cs (omega arith) k;
     }

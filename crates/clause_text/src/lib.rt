@@ -14,7 +14,7 @@ use variables::sizes::Sizes;
 use variables::sizes::measure;
 ghost use Prim.Native.Nat.{_≤_};
 ghost use lib.ListN.{length};
-ghost use Rattle.clause_list.specs.Tables.{Measured};
+ghost use Rattle.variables.specs.Measured.{Measured};
 ghost use Rattle.clause_text.specs.Answers.{LineStepped, LineFound, BatchStepped, BatchFound};
 
 mod batch;

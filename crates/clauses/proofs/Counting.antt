@@ -17,10 +17,11 @@ use Rattle.encoding.specs.Base.{base-length}
 use Rattle.encoding.specs.Numbering.{split}
 use Rattle.variables.specs.declared.sizes.Sizes.{Sizes}
 use Rattle.variables.specs.Sizes.{Dimensioned, Fitting}
-use Rattle.variables.specs.Limits.{candidate-subsets-le, reference-subsets-le}
+use Rattle.variables.specs.Limits.{candidate-subsets-le}
 use Rattle.variables.specs.Numbers.{counted, lastVariable}
 use Rattle.clause_list.specs.declared.position.Extent.{Extent}
-use Rattle.clause_list.specs.Tables.{Measured, tabled, measured-tables}
+use Rattle.variables.specs.Measured.{Measured}
+use Rattle.clause_list.specs.Tables.{tabled, measured-tables}
 use Rattle.clause_list.specs.Position.{ExtentOf}
 use Rattle.clauses.specs.ClosureCount.{pairsFor, closureCount, closure-length}
 use Rattle.clauses.specs.declared.header.Totals.{Totals}

@@ -11,7 +11,8 @@ use Rattle.decimal.specs.Writing.{wrote-length}
 use Rattle.variables.specs.declared.sizes.Sizes.{Sizes}
 use Rattle.variables.specs.Numbers.{numberOf}
 use Rattle.clause_list.specs.declared.next.Next.{Next}
-use Rattle.clause_list.specs.Tables.{taskOf, Measured}
+use Rattle.variables.specs.Measured.{Measured}
+use Rattle.clause_list.specs.Tables.{taskOf}
 use Rattle.clause_list.specs.Next.{next-clause}
 use Rattle.clause_list.specs.Handing.{Hands, clause, nothing}
 use Rattle.clauses.specs.declared.Answer.{Answer}

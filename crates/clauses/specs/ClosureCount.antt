@@ -6,8 +6,9 @@ use Prim.Native.Nat.{ℕ, zero, suc, _+_, _-_, _*_, _/_, _%_, _^_, _≤_, _<_}
 use native.Mathlib.Omega.{arith}
 use lib.Dec.{eqb}
 use lib.ListN.{length, getD}
+use Rattle.meaning.specs.BitSet.{bit}
 use Rattle.meaning.specs.Automata.{EverySet}
-use Rattle.encoding.specs.Clauses.{bit, _∪_, exactly-one, group₄}
+use Rattle.encoding.specs.Clauses.{_∪_, exactly-one, group₄}
 use Rattle.encoding.specs.Loops.{total}
 use Rattle.encoding.specs.MarkSets.{set-of-has}
 use Rattle.encoding.specs.Counts.{length₄}

@@ -4,10 +4,10 @@ use mathlib.Core.Bool.{true, false}
 use Prim.Native.Nat.{ℕ, _*_, _^_, _≤_}
 use native.Mathlib.Nat.{mul-le-mul}
 use native.Mathlib.Omega.{arith}
-use lib.Pow.{pow-mono}
 use Rattle.automaton.specs.declared.Automaton.{Automaton}
 use Rattle.automaton.specs.Value.{Valid}
 use Rattle.automaton.specs.View.{view}
+use Rattle.automaton.specs.Powers.{power-le}
 use Rattle.encoding.specs.Variables.{base, base-number}
 use Rattle.encoding.specs.Positions.{positions}
 use Rattle.variables.specs.Sizes.{Dimensioned}
@@ -21,9 +21,9 @@ largest-positions = refl
 
 pub positions-le : {a : Automaton} {n m : ℕ} → Valid a → Dimensioned n m → positions (base (view a) n m) (base-number (view a) n m) ≤ last-position
 positions-le {a} {n} {m} v d =
-    let L : 2 ^ a .propositions ≤ 16 = pow-mono {j = 4} (v .propositions-le) in
-    let M : 2 ^ m ≤ 16 = pow-mono {j = 4} (d .m-le) in
-    let S : 2 ^ a .sets ≤ 16 = pow-mono {j = 4} (v .sets-le) in
+    let L : 2 ^ a .propositions ≤ 16 = power-le (v .propositions-le) in
+    let M : 2 ^ m ≤ 16 = power-le (d .m-le) in
+    let S : 2 ^ a .sets ≤ 16 = power-le (v .sets-le) in
     let square : n * n ≤ 64 = mul-le-mul (d .n-le) (d .n-le) in
     let third : n * n * n * a .states * a .states * 2 ^ a .propositions * 2 ^ m * 2 ^ a .sets * 2 ^ m ≤ 8_589_934_592 =
     mul-le-mul (mul-le-mul (mul-le-mul (mul-le-mul (mul-le-mul (mul-le-mul (mul-le-mul square (d .n-le)) (v .states-le)) (v .states-le)) L) M) S) M in

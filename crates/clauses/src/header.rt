@@ -11,7 +11,7 @@ use variables::sizes::measure;
 ghost use mathlib.Core.Path.{_≡_};
 ghost use Prim.Native.Nat.{_^_, _≤_, _<_};
 ghost use Rattle.variables.specs.Sizes.{Fitting};
-ghost use Rattle.clause_list.specs.Tables.{Measured};
+ghost use Rattle.variables.specs.Measured.{Measured};
 ghost use Rattle.clauses.specs.Header.{Headed, HeaderTotals};
 ghost use Rattle.clauses.specs.ClosureCount.{pairsFor, closuresBy, closureCount};
 

@@ -10,7 +10,7 @@ use variables::sizes::measure;
 ghost use mathlib.Core.Path.{_≡_};
 ghost use Prim.Native.Nat.{_≤_};
 ghost use lib.ListN.{length};
-ghost use Rattle.clause_list.specs.Tables.{Measured};
+ghost use Rattle.variables.specs.Measured.{Measured};
 ghost use Rattle.clauses.specs.Step.{Stepped, StepFound, handedOver};
 
 pub mod header;

@@ -1,18 +1,15 @@
--- Powers of two up to 16, and the test of a set of marks: every set is in it just if its low bits are all 1.
-use mathlib.Core.Path.{_≡_, sym, ap, _∙_, subst}
+-- The test of a set of marks: every set is in it just if its low bits are all 1.
+use mathlib.Core.Path.{_≡_, sym, subst}
 use Prim.Native.Nat.{ℕ, _-_, _%_, _^_, _≤_, min}
-use native.Mathlib.Omega.{arith}
 use borrow.Author.Tests.{eq-eqb, eqb-true}
 use lib.Dec.{eqb}
 use Rattle.meaning.specs.Tests.{all, same-truth}
 use Rattle.meaning.specs.BitSet.{has, full-mod, mod-full}
-
-pub power-is : (k f : ℕ) → k ≤ 4 → f ≡ 2 ^ min k 4 → f ≡ 2 ^ k
-power-is k f h e = let d : min k 4 ≡ k = omega arith in e ∙ ap (λ n. 2 ^ n) d
+use Rattle.automaton.specs.Powers.{power-is}
 
 pub full-bits : (k m f : ℕ) → k ≤ 4 → f ≡ 2 ^ min k 4 → eqb (m % f) (f - 1) ≡ all k (has m)
 full-bits k m f h e =
-    let g : f ≡ 2 ^ k = power-is k f h e in
+    let g : f ≡ 2 ^ k = power-is h e in
     same-truth (eqb (m % f) (f - 1)) (all k (has m))
     (λ t. mod-full m k (subst (λ n. m % n ≡ n - 1) g (eqb-true _ _ t)))
     (λ t. eq-eqb _ _ (subst (λ n. m % n ≡ n - 1) (sym g) (full-mod m k t)))

@@ -1,11 +1,10 @@
 -- A table of n entries that is filled from the front, as f says.
-use mathlib.Core.Path.{_≡_, ap, sym, _∙_}
+use mathlib.Core.Path.{_≡_, _∙_}
 use mathlib.Core.List.{List}
 use Prim.Native.Nat.{ℕ, _+_, _≤_, _<_}
-use native.Mathlib.Decide.{ℕ-discrete}
 use native.Mathlib.Omega.{arith}
 use lib.ListN.{length, getD, set, length-set}
-use lib.Seq.{getD-set-same, getD-set-other}
+use Rattle.meaning.specs.Counting.{filled-next}
 
 -- the first i entries are filled
 pub record Filled (f : ℕ → ℕ) (n : ℕ) (xs : List ℕ) (i : ℕ) : Type 0 where
@@ -20,9 +19,5 @@ pub filled-more : (f : ℕ → ℕ) (n : ℕ) (xs : List ℕ) (i v : ℕ) → Fi
 filled-more f n xs i v F h e = record {
   size = length-set xs i v ∙ F .size;
   reached = omega arith;
-  entries = λ k g. go k g (ℕ-discrete k i);
+  entries = filled-next xs f i v (omega (arith, F .size)) (F .entries) e;
 }
-  where
-    go : (k : ℕ) → k < i + 1 → Dec (k ≡ i) → getD (set xs i v) k 0 ≡ f k
-    go k g (yes z) = ap (λ j. getD (set xs i v) j 0) z ∙ getD-set-same xs i v 0 (omega (arith, F .size)) ∙ e ∙ ap f (sym z)
-    go k g (no z) = getD-set-other xs i k v 0 z ∙ F .entries k (omega arith)

@@ -1,12 +1,11 @@
 -- The shortest word that shows a difference keeps document 01's bounds, and they fit the buffers.
-use mathlib.Core.Path.{_≡_}
-use mathlib.Core.Logic.{_⊎_, inl, inr}
+use mathlib.Core.Logic.{inl, inr}
 use mathlib.Core.List.{List}
 use Prim.Native.Nat.{ℕ, suc, _+_, _*_, _≤_, _<_, max}
 use native.Mathlib.Nat.{le-trans, mul-comm, mul-le-mul-left, mul-le-mul-right}
 use native.Mathlib.Omega.{arith}
 use lib.ListN.{length}
-use Rattle.meaning.specs.Difference.{Differ, short-prefix}
+use Rattle.meaning.specs.Difference.{short-prefix}
 use Rattle.meaning.specs.Decision.{Difference, flip, shows-every}
 use Rattle.automaton.specs.declared.Automaton.{Automaton}
 use Rattle.automaton.specs.View.{view, view-every}

@@ -6,7 +6,6 @@ use Prim.Native.Nat.{ℕ, suc, _*_, _≤_, _<_, max}
 use lib.ListN.{length, drop}
 use Rattle.meaning.specs.Agreement.{Agree, Distinguishes}
 use Rattle.automaton.specs.declared.Automaton.{Automaton}
-use Rattle.automaton.specs.declared.refusal.Refusal.{Refusal}
 use Rattle.automaton.specs.declared.refusal.Refusal.the-variants.{Outside, Differ, Short, Propositions}
 use Rattle.automaton.specs.Value.{Valid}
 use Rattle.automaton.specs.View.{view}
@@ -19,6 +18,11 @@ pub record Witness (a b : Automaton) (x y : List ℕ) : Type 0 where
   pub apart : Distinguishes (view a) (view b) x y
   pub prefix-lt : length x < a .states * b .states
   pub loop-le : length y ≤ suc (max (a .sets) (b .sets)) * (a .states * b .states)
+
+-- both buffers are long enough: "prefix 256 and loop 1,280"
+pub record Room (prefix loop : List ℕ) : Type 0 where
+  pub prefix-room : 256 ≤ length prefix
+  pub loop-room : 1280 ≤ length loop
 
 -- what the comparison is asked, and what becomes of it: the answer, and the buffers before and after
 module _ (a b : Automaton) (prefix prefix-after loop loop-after : List ℕ) (answer : Comparison) where

@@ -1,16 +1,13 @@
 -- The words that the search looks for are those on which the two automata differ.
-use mathlib.Core.Path.{_≡_, refl, sym, ap, ap₂, _∙_, subst, subst₂}
+use mathlib.Core.Path.{_≡_, sym, ap, ap₂, _∙_}
 use mathlib.Core.Logic.{_≢_, _⊎_, inl, inr}
-use mathlib.Core.List.{List, [], _∷_}
-use mathlib.Core.Bool.{Bool, true, false, _||_, true≢false}
+use mathlib.Core.List.{List, []}
+use mathlib.Core.Bool.{true≢false}
 use Prim.Native.Nat.{ℕ, _+_, _*_, _/_, _%_, _^_, _≤_, _<_}
 use native.Mathlib.Decide.{decLt}
 use native.Mathlib.Omega.{arith}
-use lib.ListN.{getD}
-use lib.Pow.{pow-mono}
 use Rattle.meaning.specs.Tests.{all, all-same}
 use Rattle.meaning.specs.BitSet.{has}
-use Rattle.meaning.specs.Walk.{run}
 use Rattle.meaning.specs.Automata.{Aut}
 use Rattle.meaning.specs.Agreement.{Agree, Comparable, Distinguishes, Over}
 use Rattle.meaning.specs.Run.{after, seen, run-lt}
@@ -18,16 +15,14 @@ use Rattle.meaning.specs.ClosedLoop.{verdict, Closed, CyclesAgree}
 use Rattle.meaning.specs.CycleLemma.{cycles→agree}
 use Rattle.meaning.specs.Decision.{CycleAgrees, Difference, classify, distinguishes, over-A, over-B}
 use Rattle.automaton.specs.declared.Automaton.{Automaton}
-use Rattle.automaton.specs.Value.{Valid, letters, destination, markSet}
+use Rattle.automaton.specs.Value.{Valid, letters}
 use Rattle.automaton.specs.View.{view, view-formed}
+use Rattle.automaton.specs.Powers.{power-le, letters-le}
 use Rattle.shortest.specs.Difference.{entry, met, Shows, InRange, Below16}
 use Rattle.shortest.specs.Met.{met-has, met-lt}
 use Rattle.compare.specs.Acceptance.{Judged, unlike, unlike-zero, zero-unlike}
 
 -- ---- the tables of a value in "The automaton"
-
-letters-le : {a : Automaton} → Valid a → letters a ≤ 16
-letters-le v = pow-mono {j = 4} (v .propositions-le)
 
 -- below c in use and 0 elsewhere
 below-16 : (n L c : ℕ) (xs : List ℕ) → c ≤ 16 → ((q l : ℕ) → q < n → l < L → entry xs q l < c)
@@ -45,7 +40,7 @@ below-16 n L c xs hc below zero q l hq hl = go (decLt q n) (decLt l L)
 pub in-range : {a : Automaton} → Valid a → InRange (a .destinations) (a .marks) (a .start)
 in-range {a} v = record {
   next-lt = below-16 (a .states) (letters a) (a .states) (a .destinations) (v .states-le) (v .destination-lt) (v .no-destination);
-  marks-lt = below-16 (a .states) (letters a) (2 ^ a .sets) (a .marks) (pow-mono {j = 4} (v .sets-le)) (v .marks-lt) (v .no-marks);
+  marks-lt = below-16 (a .states) (letters a) (2 ^ a .sets) (a .marks) (power-le (v .sets-le)) (v .marks-lt) (v .no-marks);
   start-lt = omega (arith, v .start-lt, v .states-le);
 }
 

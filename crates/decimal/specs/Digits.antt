@@ -41,10 +41,6 @@ either : (P : ℕ → Type 0) (b : Bool) {x y : ℕ} → (b ≡ true → P x) �
 either P true h g = h refl
 either P false h g = g refl
 
-pub places-from : (k c n : ℕ) → c ≤ places k c n
-places-from zero c n = omega arith
-places-from (suc k) c n = either (λ r. c ≤ r) (ltb n (10 ^ c)) (λ e. omega arith) (λ e. omega (arith, places-from k (c + 1) n))
-
 pub places-to : (k c n : ℕ) → places k c n ≤ c + k
 places-to zero c n = omega arith
 places-to (suc k) c n = either (λ r. r ≤ c + suc k) (ltb n (10 ^ c)) (λ e. omega arith) (λ e. omega (arith, places-to k (c + 1) n))
@@ -68,9 +64,6 @@ places-least (suc k) c n j h g =
 pub decimal-length : (n : ℕ) → length (decimal n) ≡ places 19 1 n
 unfolding decimal
 decimal-length n = digits-length (places 19 1 n) n
-
-pub decimal-some : (n : ℕ) → 1 ≤ length (decimal n)
-decimal-some n = omega (arith, decimal-length n, places-from 19 1 n)
 
 pub decimal-at-most-20 : (n : ℕ) → length (decimal n) ≤ 20
 decimal-at-most-20 n = omega (arith, decimal-length n, places-to 19 1 n)

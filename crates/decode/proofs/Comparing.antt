@@ -10,12 +10,12 @@ use Rattle.automaton.specs.declared.refusal.Refusal.{Refusal}
 use Rattle.automaton.specs.declared.refusal.Refusal.the-variants.{Differ}
 use Rattle.compare.specs.declared.Comparison.{Comparison}
 use Rattle.compare.specs.declared.Comparison.the-variants.{Same, Refused as Objects}
-use Rattle.compare.specs.Compared.{Compared, Shown}
+use Rattle.compare.specs.Compared.{Compared, Shown, Room}
 use Rattle.compare.proofs.Comparison.{enum}
 use Rattle.decode.specs.declared.Answer.the-variants.{Refused}
 use Rattle.decode.specs.declared.Decoded.{Decoded}
 use Rattle.decode.specs.Answers.{found, without, Differs, ByComparison}
-use Rattle.decode.specs.Ready.{Room, Comparable}
+use Rattle.decode.specs.Ready.{Comparable}
 
 pub same-tag : (y : Comparison) → tagOf (declared enum) y ≡ 0 → y ≡ Same
 same-tag Same e = refl

@@ -9,8 +9,8 @@ use borrow.Author.Count.{below-more}
 use borrow.Author.Tests.{not-true, not-false}
 use lib.Dec.{eqb}
 use lib.ListN.{length, getD, set, length-set}
-use lib.Seq.{getD-set-same, getD-set-other}
 use Rattle.meaning.specs.Automata.{Aut}
+use Rattle.meaning.specs.Counting.{filled-next}
 use Rattle.encoding.specs.Variables.{mark}
 use Rattle.encoding.specs.Clauses.{marks-of, set-of}
 use Rattle.variables.specs.declared.sizes.Sizes.{Sizes}
@@ -69,11 +69,6 @@ module _ (C : Aut) where
     marks-at = λ i h. absurd (omega arith);
   }
 
-  stored : (xs : List ℕ) (f : ℕ → ℕ) (k v : ℕ) → length xs ≡ 256 → k < 256 → ((i : ℕ) → i < k → getD xs i 0 ≡ f i) → v ≡ f k
-      → (i : ℕ) → i < k + 1 → getD (set xs k v) i 0 ≡ f i
-  stored xs f k v size h old e =
-      below-more (λ i. getD (set xs k v) i 0 ≡ f i) k (λ i g. getD-set-other xs k i v 0 (omega arith) ∙ old i g) (getD-set-same xs k v 0 (omega arith) ∙ e)
-
   pub filled-more : {d s : List ℕ} {k : ℕ} (x : Cell) → Filled C d s k → k < 256 → CellOf C k x → not (x .found) ≡ false
       → Filled C (set d k (x .destination)) (set s k (x .marks)) (k + 1)
   filled-more {d} {s} {k} x F h c t =
@@ -83,8 +78,8 @@ module _ (C : Aut) where
         destinations-size = length-set d k (x .destination) ∙ F .destinations-size;
         marks-size = length-set s k (x .marks) ∙ F .marks-size;
         leads = below-more (λ i. InUse C i → Leads C i) k (F .leads) (c .leads e);
-        destinations-at = stored d (destinationAt C) k (x .destination) (F .destinations-size) h (F .destinations-at) (c .destination-is e);
-        marks-at = stored s (marksAt C) k (x .marks) (F .marks-size) h (F .marks-at) (c .marks-is e);
+        destinations-at = filled-next d (destinationAt C) k (x .destination) (omega (arith, F .destinations-size)) (F .destinations-at) (c .destination-is e);
+        marks-at = filled-next s (marksAt C) k (x .marks) (omega (arith, F .marks-size)) (F .marks-at) (c .marks-is e);
       }
 
   pub filled-stopped : {d s : List ℕ} {k : ℕ} (x : Cell) → Filled C d s k → CellOf C k x → not (x .found) ≡ true → FilledTo C d s k

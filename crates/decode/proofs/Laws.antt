@@ -1,23 +1,13 @@
--- Laws of the lowest number that passes a test, and of a set that is made bit by bit.
-use mathlib.Core.Path.{_≡_, refl, sym, ap, ap₂, _∙_}
-use mathlib.Core.Bool.{Bool, true, false}
+-- Laws of a set that is made bit by bit, from the last.
+use mathlib.Core.Path.{_≡_, sym, ap, ap₂, _∙_}
+use mathlib.Core.Bool.{Bool}
 use Prim.Native.Nat.{ℕ, zero, suc, _+_, _-_, _*_, _≤_, _<_}
-use native.Mathlib.Nat.{not-suc-le-zero, add-zero, zero-add}
+use native.Mathlib.Nat.{add-zero, zero-add}
 use native.Mathlib.Omega.{arith}
 use lib.Pow.{pow-mono}
-use Rattle.encoding.specs.Clauses.{lowest, set-of, bit}
+use Rattle.meaning.specs.BitSet.{bit}
+use Rattle.encoding.specs.Clauses.{set-of}
 use Rattle.encoding.specs.MarkSets.{set-of-same, set-of-lt}
-
-pub lowest-is : (n : ℕ) (f : ℕ → Bool) (i : ℕ) → i < n → f i ≡ true → ((j : ℕ) → j < i → f j ≡ false) → i ≡ lowest n f
-lowest-is zero f i h e g = absurd (not-suc-le-zero h)
-lowest-is (suc n) f zero h e g = rw (e, lowest)
-lowest-is (suc n) f (suc i) h e g = rw (g zero (omega arith), lowest) (ap suc (lowest-is n (λ j. f (suc j)) i (omega arith) e (λ j k. g (suc j) (omega arith))))
-
-pub lowest-none : (n : ℕ) (f : ℕ → Bool) → ((j : ℕ) → j < n → f j ≡ false) → n ≡ lowest n f
-lowest-none zero f g = refl
-lowest-none (suc n) f g = rw (g zero (omega arith), lowest) (ap suc (lowest-none n (λ j. f (suc j)) (λ j k. g (suc j) (omega arith))))
-
--- ---- bit by bit, from the last
 
 set-of-step : (k i : ℕ) (f : ℕ → Bool) → set-of k (λ j. f (suc i + j)) * 2 + bit (f i) ≡ set-of (suc k) (λ j. f (i + j))
 unfolding set-of

@@ -8,25 +8,26 @@ use native.Mathlib.Omega.{arith}
 use lib.Arith.{digits-div, digits-mod}
 use lib.Dec.{eqb}
 use lib.ListN.{getD}
-use lib.Pow.{pow-mono}
 use Rattle.automaton.specs.declared.Automaton.{Automaton}
 use Rattle.automaton.specs.declared.refusal.Refusal.{Refusal}
 use Rattle.automaton.specs.declared.refusal.Refusal.the-variants.{NoStep}
 use Rattle.automaton.specs.Value.{Valid, letters}
+use Rattle.automaton.specs.Powers.{letters-le}
+use Rattle.automaton.specs.Rows.{rows-same}
 use Rattle.encoding.specs.Clauses.{Assignment, destination, marks-of}
 use Rattle.variables.specs.declared.sizes.Sizes.{Sizes}
 use Rattle.variables.specs.declared.sizes.Sized.{Sized}
-use Rattle.variables.specs.declared.sizes.Sized.the-variants.{Of, Refused as NoFile}
+use Rattle.variables.specs.declared.sizes.Sized.the-variants.{Refused as NoFile}
 use Rattle.variables.specs.Sizes.{Dimensioned, Refuses, outside, dimensions, Sizing, Fitting, sizesOf}
 use Rattle.variables.specs.Limits.{sizes-fit}
 use Rattle.decode.specs.declared.Answer.the-variants.{Refused}
 use Rattle.decode.specs.declared.Decoded.{Decoded}
-use Rattle.decode.specs.Table.{decodedTable, decodedValue, Steps, AllStep, LowestWithout}
+use Rattle.decode.specs.Table.{entry, decodedTable, decodedValue, Steps, AllStep, LowestWithout}
 use Rattle.decode.specs.Answers.{without, ByComparison, ByAssignment}
-use Rattle.decode.specs.Entries.{rows-same}
 use Rattle.decode.specs.Value.{steps-lead, lead-steps, decoded-valid}
 use Rattle.decode.specs.Cells.{tableBy, Filled, FilledTo}
-use Rattle.decode.specs.Ready.{Measured, Comparable, candidate}
+use Rattle.variables.specs.Measured.{Measured, sizing-refused}
+use Rattle.decode.specs.Ready.{Comparable, candidate}
 
 by-sizes : (a : Automaton) (n m : ℕ) (named : List ℕ) → tableBy (sizesOf a n m) named ≡ decodedTable a n m (λ v. eqb (getD named v 0) 1)
 unfolding destination
@@ -34,20 +35,17 @@ by-sizes a n m named = refl
 
 module _ {a : Automaton} {z : Sizes} (M : Measured a z) where
   pub fitting : Fitting z
-  fitting = subst Fitting (sym (M .sizes)) (sizes-fit (M .valid) (M .dimensioned))
+  fitting = subst Fitting (sym (M .sized)) (sizes-fit (M .valid) (M .dimensioned))
 
   table-is : (named : List ℕ) → tableBy z named ≡ decodedTable a (z .candidate .states) (z .candidate .sets) (λ v. eqb (getD named v 0) 1)
-  table-is named = ap (λ x. tableBy x named) (M .sizes) ∙ by-sizes a (z .candidate .states) (z .candidate .sets) named
-
-few-letters : {a : Automaton} → Valid a → letters a ≤ 16
-few-letters v = pow-mono {j = 4} (v .propositions-le)
+  table-is named = ap (λ x. tableBy x named) (M .sized) ∙ by-sizes a (z .candidate .states) (z .candidate .sets) named
 
 -- what was filled, for the file of a, n and m
 module _ (a : Automaton) (n m : ℕ) (v : Valid a) (ν : Assignment) {d s : List ℕ} {k : ℕ} where
   -- a state and a letter before k have a true step
   steps-before : Filled (decodedTable a n m ν) d s k → (q l : ℕ) → q < n → l < letters a → q * 16 + l < k → Steps a n m ν q l
   steps-before F q l hq hl h =
-      let hl₁₆ : l < 16 = omega (arith, few-letters v) in
+      let hl₁₆ : l < 16 = omega (arith, letters-le v) in
       let eq : (q * 16 + l) / 16 ≡ q = digits-div q hl₁₆ in
       let el : (q * 16 + l) % 16 ≡ l = digits-mod q hl₁₆ in
       lead-steps a n m ν q l (subst (λ p. p < n) (ap₂ (decodedTable a n m ν .step) eq el) (F .leads (q * 16 + l) h (omega (arith, eq), omega (arith, el))))
@@ -55,16 +53,16 @@ module _ (a : Automaton) (n m : ℕ) (v : Valid a) (ν : Assignment) {d s : List
   -- all of them
   module _ (F : Filled (decodedTable a n m ν) d s k) (all : 256 ≤ k) (few : n ≤ 16) where
     all-step : AllStep a n m ν
-    all-step q l hq hl = steps-before F q l hq hl (omega (arith, few-letters v))
+    all-step q l hq hl = steps-before F q l hq hl (omega (arith, letters-le v))
 
     no-lowest : (q l : ℕ) → LowestWithout a n m ν q l → ⊥
     no-lowest q l w = w .no-step (all-step q l (w .state-lt) (w .letter-lt))
 
     destinations-filled : d ≡ decodedValue a n m ν .destinations
-    destinations-filled = rows-same (decodedTable a n m ν) (decodedTable a n m ν .step) d (F .destinations-size) (λ i h. F .destinations-at i (omega arith))
+    destinations-filled = rows-same 16 (entry (decodedTable a n m ν) (decodedTable a n m ν .step)) d (F .destinations-size) (λ i h. F .destinations-at i (omega arith))
 
     marks-filled : s ≡ decodedValue a n m ν .marks
-    marks-filled = rows-same (decodedTable a n m ν) (marks-of (decodedTable a n m ν)) s (F .marks-size) (λ i h. F .marks-at i (omega arith))
+    marks-filled = rows-same 16 (entry (decodedTable a n m ν) (marks-of (decodedTable a n m ν))) s (F .marks-size) (λ i h. F .marks-at i (omega arith))
 
   -- up to one that has none
   module _ (F : FilledTo (decodedTable a n m ν) d s k) (h : k < 256) where
@@ -77,7 +75,7 @@ module _ (a : Automaton) (n m : ℕ) (v : Valid a) (ν : Assignment) {d s : List
     -- which is the lowest
     lowest-here : (q l : ℕ) → LowestWithout a n m ν q l → (k / 16 ≡ q) × (k % 16 ≡ l)
     lowest-here q l w =
-        let hl : l < 16 = omega (arith, few-letters v, w .letter-lt) in
+        let hl : l < 16 = omega (arith, letters-le v, w .letter-lt) in
         let from : k ≤ q * 16 + l = least (decLt (q * 16 + l) k) in
         let to : q * 16 + l ≤ k = most hl (decLt k (q * 16 + l)) in
         (omega arith, omega arith)
@@ -152,18 +150,12 @@ module _ {a : Automaton} {z : Sizes} (M : Measured a z) (named : List ℕ) where
 
 -- ---- the sizes of the file
 
-pub sizing-of : {a : Automaton} {n m : ℕ} {y : Sized} {z : Sizes} → Sizing a n m y → y ≡ Of z → Valid a × Dimensioned n m × (z ≡ sizesOf a n m)
-sizing-of {a} {n} {m} s e = subst (Sizing a n m) e s
-
 pub sizing-not : {a : Automaton} {n m : ℕ} {y : Sized} {f : Refusal} → Sizing a n m y → y ≡ NoFile f → Valid a → Dimensioned n m → ⊥
-sizing-not {a} {n} {m} s e v d = go (subst (Sizing a n m) e s)
+sizing-not {a} {n} {m} s e v d = go (sizing-refused s e)
   where
     go : {f : Refusal} → Refuses a n m f → ⊥
     go (outside h) = h v
     go (dimensions w h) = h d
-
-pub measured-of : {a : Automaton} {n m : ℕ} {z : Sizes} → Valid a × Dimensioned n m × (z ≡ sizesOf a n m) → Measured a z
-measured-of {a} (v, d, e) = subst (Measured a) (sym e) (record { valid = v; dimensioned = d; sizes = refl })
 
 pub assigned-answer : {a : Automaton} {n m : ℕ} {z : Sizes} {p p′ l l′ : List ℕ} {x : Decoded} (ν : Assignment) → z ≡ sizesOf a n m
     → ByAssignment p p′ l l′ x a (z .candidate .states) (z .candidate .sets) ν → ByAssignment p p′ l l′ x a n m ν

@@ -13,10 +13,10 @@ use Rattle.encoding.specs.Variables.{base, base-number}
 use Rattle.encoding.specs.Clauses.{Assignment, Satisfies, base-file, Equivalent, SameTable}
 use Rattle.encoding.specs.Constraints.{constraints}
 use Rattle.encoding.specs.Base.{base-numbering, base-well-posed, base-encodes}
+use Rattle.encoding.specs.SameTables.{same-agree}
 use Rattle.variables.specs.Sizes.{Dimensioned}
 use Rattle.decode.specs.Table.{decodedTable, decodedValue, AllStep}
 use Rattle.decode.specs.Value.{decoded-valid, decoded-view}
-use Rattle.decode.specs.SameTables.{same-agree}
 
 -- a value with n states, m sets, start 0, and the propositions and names of the reference
 pub record Candidate (a : Automaton) (n m : ℕ) (C : Automaton) : Type 0 where

@@ -4,9 +4,7 @@ use Prim.Native.Nat.{ℕ, _+_, _*_, _≤_, _<_}
 use native.Mathlib.Omega.{arith}
 use lib.Arith.{digits-lt}
 use Rattle.meaning.specs.Automata.{Aut}
-use Rattle.automaton.specs.declared.Automaton.{Automaton}
-use Rattle.automaton.specs.View.{view}
-use Rattle.encoding.specs.Variables.{step, mark, Present, base, base-number, base-variables}
+use Rattle.encoding.specs.Variables.{step, mark, Present, base, base-number}
 use Rattle.encoding.specs.Blocks.{transition-marks-laws}
 use Rattle.variables.specs.declared.sizes.Sizes.{Sizes}
 use Rattle.variables.specs.Sizes.{Fitting}

@@ -4,7 +4,6 @@ pub mod Entries
 pub mod Kept
 pub mod Value
 pub mod Missing
-pub mod SameTables
 pub mod Candidates
 pub mod Texts
 pub mod Verdicts

@@ -3,25 +3,20 @@
 use mathlib.Core.Path.{_≡_}
 use mathlib.Core.Logic.{_⊎_}
 use mathlib.Core.Bool.{true, _&&_, cond}
-use mathlib.Core.List.{List, [], _∷_}
 use Prim.Native.Nat.{ℕ, _<_}
 use lib.Dec.{ltb}
 use Rattle.meaning.specs.Automata.{Aut}
 use Rattle.automaton.specs.declared.Automaton.{Automaton}
-use Rattle.automaton.specs.Value.{letters}
+use Rattle.automaton.specs.Value.{rows, letters}
 use Rattle.automaton.specs.View.{view}
 use Rattle.encoding.specs.Variables.{step, base, base-number}
-use Rattle.encoding.specs.Clauses.{Assignment, each, marks-of, decoded}
+use Rattle.encoding.specs.Clauses.{Assignment, marks-of, decoded}
 
 -- ---- an automaton of `meaning` as a value
 
 -- what f says of a state and a letter of C; 0 where there is no such state or letter
 abbrev pub entry : Aut → (ℕ → ℕ → ℕ) → ℕ → ℕ → ℕ
 entry C f q l = cond (ltb q (C .states) && ltb l (C .letters)) (f q l) 0
-
--- the entries of a value's table: 16 for each of 16 states
-abbrev pub rows : Aut → (ℕ → ℕ → ℕ) → List ℕ
-rows C f = each 16 λ q. each 16 λ l. entry C f q l ∷ []
 
 -- with the propositions of the reference: "proposition names are the reference's"
 abbrev pub valueOf : Automaton → Aut → Automaton
@@ -32,8 +27,8 @@ valueOf a C = record {
   sets = C .sets;
   lengths = a .lengths;
   names = a .names;
-  destinations = rows C (C .step);
-  marks = rows C (marks-of C);
+  destinations = rows 16 (entry C (C .step));
+  marks = rows 16 (entry C (marks-of C));
 }
 
 -- ---- what is decoded

@@ -1,36 +1,28 @@
 -- THE VALUE THAT IS DECODED lies in "The automaton", and its view is the table that `encoding` decodes. It depends on the step and mark
 -- variables only.
 use mathlib.Core.Path.{_≡_, refl, sym, ap, _∙_, subst}
-use mathlib.Core.Bool.{Bool, true, false}
-use Prim.Native.Nat.{ℕ, zero, suc, _≤_, _<_}
-use native.Mathlib.Nat.{not-suc-le-zero, le-of-suc-le-suc}
+use mathlib.Core.Bool.{Bool}
+use Prim.Native.Nat.{ℕ, _≤_, _<_}
 use native.Mathlib.Omega.{arith}
-use lib.Pow.{pow-mono}
 use Rattle.meaning.specs.Automata.{Aut}
 use Rattle.meaning.specs.BitSet.{has}
 use Rattle.automaton.specs.declared.Automaton.{Automaton}
 use Rattle.automaton.specs.Value.{Valid, letters, markSet}
 use Rattle.automaton.specs.Value.{destination as destinationOf}
 use Rattle.automaton.specs.View.{view}
+use Rattle.automaton.specs.Powers.{letters-le}
+use Rattle.automaton.specs.Rows.{rows-length, rows-at}
 use Rattle.encoding.specs.Variables.{step, mark, base-number}
 use Rattle.encoding.specs.Clauses.{Assignment, lowest, destination, marks-of, SameTable}
-use Rattle.encoding.specs.Decoding.{lowest-true, lowest-same}
 use Rattle.encoding.specs.MarkSets.{set-of-lt, has-set-of, set-of-same}
+use Rattle.encoding.specs.Lowest.{lowest-true, lowest-same, lowest-passes}
 use Rattle.variables.specs.Sizes.{Dimensioned}
 use Rattle.solution.specs.Calls.{kept}
-use Rattle.decode.specs.Table.{decodedTable, decodedValue, Steps, AllStep}
-use Rattle.decode.specs.Entries.{entry-used, entry-unused, rows-length, rows-at, rows-equal}
+use Rattle.decode.specs.Table.{entry, decodedTable, decodedValue, Steps, AllStep}
+use Rattle.decode.specs.Entries.{entry-used, entry-unused, entries-equal}
 use Rattle.decode.specs.Kept.{step-kept, mark-kept}
 
 -- ---- the steps
-
-lowest-passes : (n : ℕ) (f : ℕ → Bool) → lowest n f < n → f (lowest n f) ≡ true
-lowest-passes zero f h = absurd (not-suc-le-zero h)
-lowest-passes (suc n) f h = go (f zero) refl h (λ k. lowest-passes n (λ i. f (suc i)) k)
-  where
-    go : (b : Bool) → f zero ≡ b → lowest (suc n) f < suc n → (lowest n (λ i. f (suc i)) < n → f (suc (lowest n (λ i. f (suc i)))) ≡ true) → f (lowest (suc n) f) ≡ true
-    go true e h below = rw (e, lowest) e
-    go false e h below = rw (e, lowest) (below (le-of-suc-le-suc (rw (e, lowest) at h)))
 
 module _ (a : Automaton) (n m : ℕ) (ν : Assignment) where
   -- there is a true step if and only if the decoded one leads to a state
@@ -51,14 +43,11 @@ module _ {a : Automaton} {n m : ℕ} (v : Valid a) (z : Dimensioned n m) (ν : A
   abbrev value : Automaton
   value = decodedValue a n m ν
 
-  few-letters : letters a ≤ 16
-  few-letters = pow-mono {j = 4} (v .propositions-le)
-
   destination-is : (q l : ℕ) → q < n → l < letters a → destinationOf value q l ≡ C .step q l
-  destination-is q l hq hl = rows-at C (C .step) q l (omega (arith, z .n-le)) (omega (arith, few-letters)) ∙ entry-used C (C .step) q l hq hl
+  destination-is q l hq hl = rows-at 16 (entry C (C .step)) q l (omega (arith, z .n-le)) (omega (arith, letters-le v)) ∙ entry-used C (C .step) q l hq hl
 
   marks-is : (q l : ℕ) → q < n → l < letters a → markSet value q l ≡ marks-of C q l
-  marks-is q l hq hl = rows-at C (marks-of C) q l (omega (arith, z .n-le)) (omega (arith, few-letters)) ∙ entry-used C (marks-of C) q l hq hl
+  marks-is q l hq hl = rows-at 16 (entry C (marks-of C)) q l (omega (arith, z .n-le)) (omega (arith, letters-le v)) ∙ entry-used C (marks-of C) q l hq hl
 
   pub decoded-valid : Valid (decodedValue a n m ν)
   decoded-valid = record {
@@ -72,14 +61,14 @@ module _ {a : Automaton} {n m : ℕ} (v : Valid a) (z : Dimensioned n m) (ν : A
     name-le = v .name-le;
     name-bytes = v .name-bytes;
     no-two-alike = v .no-two-alike;
-    no-destination = λ q l hq hl u. rows-at C (C .step) q l hq hl ∙ entry-unused C (C .step) q l u;
-    no-marks = λ q l hq hl u. rows-at C (marks-of C) q l hq hl ∙ entry-unused C (marks-of C) q l u;
+    no-destination = λ q l hq hl u. rows-at 16 (entry C (C .step)) q l hq hl ∙ entry-unused C (C .step) q l u;
+    no-marks = λ q l hq hl u. rows-at 16 (entry C (marks-of C)) q l hq hl ∙ entry-unused C (marks-of C) q l u;
     no-length = v .no-length;
     no-byte = v .no-byte;
     lengths-size = v .lengths-size;
     names-size = v .names-size;
-    destinations-size = rows-length C (C .step);
-    marks-size = rows-length C (marks-of C);
+    destinations-size = rows-length 16 (entry C (C .step));
+    marks-size = rows-length 16 (entry C (marks-of C));
   }
 
   pub decoded-view : SameTable (view (decodedValue a n m ν)) (decodedTable a n m ν)
@@ -117,8 +106,8 @@ module _ (a : Automaton) (n m : ℕ) (ν ξ : Assignment) (same : (k : ℕ) → 
       set-of-same m (A .marks q l) (B .marks q l) (λ i hi.
       same _ (omega arith) (mark-kept (view a) n m q l i (A .step q l) (hq, hl, hi, steps-lead a n m ν q l (t q l hq hl)))
       ∙ ap (λ p. ξ (base-number (view a) n m (mark q l i p))) (destination-same q l hq hl)) in
-      let d = rows-equal A B (A .step) (B .step) refl refl destination-same in
-      let s = rows-equal A B (marks-of A) (marks-of B) refl refl marks in
+      let d = entries-equal A B (A .step) (B .step) refl refl destination-same in
+      let s = entries-equal A B (marks-of A) (marks-of B) refl refl marks in
       λ i. record {
         states = n;
         start = 0;

@@ -10,10 +10,12 @@ use variables::sizes::Sizes;
 use variables::sizes::measure;
 ghost use mathlib.Core.Path.{_≡_};
 ghost use Rattle.automaton.specs.Value.{Valid};
+ghost use Rattle.compare.specs.Compared.{Room};
 ghost use Rattle.variables.specs.Sizes.{Dimensioned};
 ghost use Rattle.decode.specs.declared.Answer.the-variants.{Refused as RefusedWith};
 ghost use Rattle.decode.specs.Answers.{Decodes, ByVerdict, ByAssignment, ByComparison, said, found, without};
-ghost use Rattle.decode.specs.Ready.{Room, Measured, Comparable, candidate};
+ghost use Rattle.variables.specs.Measured.{Measured};
+ghost use Rattle.decode.specs.Ready.{Comparable, candidate};
 
 mod cells;
 

@@ -18,7 +18,7 @@ use Rattle.automaton.specs.declared.refusal.Code.{Code}
 use Rattle.automaton.specs.Tests.{fits}
 use Rattle.automaton.specs.Value.{Valid}
 use Rattle.automaton.specs.View.{view, view-formed}
-use Rattle.automaton.proofs.Meant.{fits-valid, valid-fits}
+use Rattle.automaton.specs.Meant.{fits-valid, valid-fits}
 use Rattle.variables.specs.Sizes.{Dimensioned}
 use Rattle.solution.specs.declared.Reader.{Reader}
 use Rattle.solution.specs.Calls.{InRange}

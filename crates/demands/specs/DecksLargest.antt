@@ -3,18 +3,18 @@ use mathlib.Core.Path.{_≡_, refl}
 use mathlib.Core.List.{_∷_, _++_}
 use Prim.Native.Nat.{ℕ, _≤_}
 use lib.ListN.{replicate}
-use lib.Pow.{pow-mono}
 use Rattle.automaton.specs.declared.Automaton.{Automaton}
 use Rattle.automaton.specs.Tests.{fits, passes}
 use Rattle.automaton.specs.Value.{Valid}
 use Rattle.automaton.specs.View.{view}
-use Rattle.automaton.proofs.Meant.{fits-valid}
+use Rattle.automaton.specs.Powers.{letters-le}
+use Rattle.automaton.specs.Meant.{fits-valid}
 use Rattle.encoding.specs.Variables.{base-variables}
 use Rattle.variables.specs.Sizes.{Dimensioned}
 use Rattle.clause_text.specs.LineLength.{variables-le}
 
 pub at-most : {a : Automaton} {n m : ℕ} → Valid a → Dimensioned n m → base-variables (view a) n m ≤ 4_199_424
-at-most {a} {n} {m} v d = variables-le (view a) n m (d .n-le) (d .m-le) (v .states-le) (pow-mono {j = 4} (v .propositions-le)) (v .sets-le)
+at-most {a} {n} {m} v d = variables-le (view a) n m (d .n-le) (d .m-le) (v .states-le) (letters-le v) (v .sets-le)
 
 pub met : (a : Automaton) → a .states ≡ 16 → a .propositions ≡ 4 → a .sets ≡ 4 → base-variables (view a) 8 4 ≡ 4_199_424
 met a r k s = rw (r, k, s)

@@ -1,6 +1,6 @@
 -- DEFINITIONS: what the lines of the table of known decks say, by the definitions that the public contracts cite.
 use mathlib.Core.Path.{_≡_}
-use mathlib.Core.List.{List, [], _∷_, _++_, List·Memᴰ}
+use mathlib.Core.List.{List, [], _++_, List·Memᴰ}
 use Prim.Native.Nat.{ℕ, _≤_}
 use lib.ListN.{length}
 use Rattle.automaton.specs.declared.Automaton.{Automaton}
@@ -17,7 +17,7 @@ use Rattle.clauses.specs.declared.header.Totals.{Totals}
 use Rattle.clauses.specs.declared.header.Totals.the-variants.{Of, Refused}
 use Rattle.clauses.specs.Header.{Headed}
 use Rattle.clause_text.specs.Text.{linesText}
-use Rattle.clause_text.specs.Batches.{BatchCall, BatchCalls, all-bytes}
+use Rattle.clause_text.specs.Batches.{TextCall, TextCalls, all-bytes}
 use Rattle.solution.specs.declared.Reader.{Reader}
 use Rattle.solution.specs.declared.Reply.{Reply}
 use Rattle.solution.specs.declared.Answer.the-variants as reader
@@ -62,7 +62,7 @@ pub record Prints (a : Automaton) (n m : ℕ) (text : List ℕ) : Type 0 where
   -- the text of the file
   pub file : headerLine (base-variables (view a) n m) (length (base-file (view a) n m)) ++ linesText (base-file (view a) n m) ≡ text
   -- so that of what the header answers, and then of all that calls for lines write until one says "ended"
-  pub calls : (t : Totals) → Headed a n m t → (cs : List BatchCall) → BatchCalls a n m 0 cs → (c : BatchCall) → List·Memᴰ c cs → c .result .answer ≡ Ended
+  pub calls : (t : Totals) → Headed a n m t → (cs : List TextCall) → TextCalls a n m 0 cs → (c : TextCall) → List·Memᴰ c cs → c .result .answer ≡ Ended
       → headerText t ++ all-bytes cs ≡ text
 
 -- ---- solver text

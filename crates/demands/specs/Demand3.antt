@@ -24,7 +24,7 @@ use Rattle.clauses.specs.declared.header.Totals.the-variants.{Of, Refused as No
 use Rattle.clauses.specs.Header.{Headed}
 use Rattle.clauses.specs.Calls.{Call, Calls, HandsOut}
 use Rattle.clauses.specs.HandsOut.{hands-out}
-use Rattle.clause_text.specs.Batches.{BatchCall, BatchCalls, LinesOut}
+use Rattle.clause_text.specs.Batches.{TextCall, TextCalls, LinesOut}
 use Rattle.clause_text.specs.LinesOut.{lines-out}
 use Rattle.solution.specs.declared.Reader.{Reader}
 use Rattle.solution.specs.declared.Reply.{Reply}
@@ -61,8 +61,8 @@ pub record Demand3 (reference : Automaton) (n m : ℕ) : Type 0 where
   -- refused or not, left it." The calls that are not refused hand out the clauses of the file in order, one each, and then "ended" again and again; a refused
   -- call keeps the position and the buffer.
   pub clauses : (cs : List Call) → Calls reference n m 0 cs → HandsOut reference n m cs
-  -- The same file as text, as many lines a call as the buffer holds.
-  pub lines : (cs : List BatchCall) → BatchCalls reference n m 0 cs → LinesOut reference n m cs
+  -- The same file as text, one line a call or as many as the buffer holds, in any order.
+  pub lines : (cs : List TextCall) → TextCalls reference n m 0 cs → LinesOut reference n m cs
   -- 2. "The header is `p cnf V C`": the last variable and the number of clauses.
   pub header : (r : Totals) → Headed reference n m r → r ≡ Of (last-variable reference n m) (length (file reference n m))
   -- "C counted beforehand: nL + (1 + nnrL) + n³rrL·2^m·2^s·2^m + the length of group 4"

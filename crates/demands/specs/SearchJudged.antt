@@ -3,7 +3,7 @@ use mathlib.Core.Path.{_≡_, refl, sym, ap, _∙_}
 use mathlib.Core.Logic.{inl, inr}
 use mathlib.Core.Bool.{Bool, true, false, true≢false}
 use mathlib.Core.List.{List, []}
-use mathlib.Core.Option.{none, some, Option·some-inj}
+use mathlib.Core.Option.{none, Option·some-inj}
 use Prim.Native.Nat.{ℕ}
 use native.Mathlib.Omega.{arith}
 use lib.ListN.{length}
@@ -12,9 +12,8 @@ use Rattle.automaton.specs.declared.refusal.Code.{Code}
 use Rattle.automaton.specs.declared.refusal.Refusal.{Refusal}
 use Rattle.automaton.specs.Refused.{codeOf}
 use Rattle.search.specs.declared.Search.{Search}
-use Rattle.search.specs.declared.Answer.{Answer}
 use Rattle.search.specs.declared.Reply.{Reply}
-use Rattle.search.specs.Replies.{Started, Told, Found, Untouched, replied, refused}
+use Rattle.search.specs.Replies.{Started, Told, Found, Untouched, refused}
 use Rattle.search.specs.Replies as state
 use Rattle.demands.specs.Judgement.{TurnedDown, Accepted, Judged}
 use Rattle.demands.specs.Conditions.{to-start, to-go-on, to-find, search-said, JudgesFinding}

@@ -8,7 +8,7 @@ use lib.Bits.{bitOr}
 use lib.IntN.{ℤ, pos, negsuc, negℤ}
 use Rattle.meaning.specs.Automata.{Aut, WellFormed}
 use Rattle.meaning.specs.Agreement.{Agree}
-use Rattle.meaning.specs.BitSet.{has}
+use Rattle.meaning.specs.BitSet.{bit, has}
 use Rattle.encoding.specs.Variables.{Task, Var, step, mark, path, base, base-number}
 
 -- ---- loops
@@ -24,10 +24,6 @@ only true a = a ∷ []
 only false a = []
 
 -- ---- sets of marks, "bit i for set i"
-
-abbrev pub bit : Bool → ℕ
-bit true = 1
-bit false = 0
 
 -- the set of the i below k that pass the test
 unfoldable pub set-of : ℕ → (ℕ → Bool) → ℕ

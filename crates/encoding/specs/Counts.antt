@@ -4,8 +4,9 @@ use mathlib.Core.Bool.{true, _&&_}
 use Prim.Native.Nat.{ℕ, suc, _+_, _*_, _^_}
 use native.Mathlib.Omega.{arith}
 use lib.ListN.{length, length-append}
+use Rattle.meaning.specs.BitSet.{bit}
 use Rattle.encoding.specs.Variables.{Task, Var}
-use Rattle.encoding.specs.Clauses.{bit, exactly-one, group₁, group₂, group₃, group₄, file}
+use Rattle.encoding.specs.Clauses.{exactly-one, group₁, group₂, group₃, group₄, file}
 use Rattle.encoding.specs.Loops.{total, each-total, each-length, only-length}
 
 module _ (T : Task) (num : Var → ℕ) where

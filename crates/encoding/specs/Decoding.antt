@@ -1,31 +1,13 @@
 -- Laws of decoding: the step that is decoded is true, and an assignment that says what a table does decodes to that table.
-use mathlib.Core.Path.{_≡_, refl, sym, ap₂, _∙_}
-use mathlib.Core.Bool.{Bool, true, false, true≢false}
-use Prim.Native.Nat.{ℕ, zero, suc, _<_, suc-le-suc}
-use native.Mathlib.Nat.{not-suc-le-zero, le-of-suc-le-suc, zero-lt-suc}
-use native.Mathlib.Omega.{arith}
+use mathlib.Core.Path.{_≡_, refl, sym, _∙_}
+use mathlib.Core.Bool.{Bool}
+use Prim.Native.Nat.{ℕ, _<_}
 use lib.Dec.{eqb}
 use borrow.Author.Tests.{eq-eqb, eqb-true}
 use Rattle.meaning.specs.Automata.{Aut, WellFormed}
 use Rattle.encoding.specs.Variables.{Task, Var, step, mark, path, Present}
-use Rattle.encoding.specs.Clauses.{Assignment, lowest, destination, decoded, Candidate, SameTable}
-
-pub lowest-true : (n : ℕ) (f : ℕ → Bool) (p : ℕ) → p < n → f p ≡ true → (lowest n f < n) × (f (lowest n f) ≡ true)
-lowest-true zero f p h e = absurd (not-suc-le-zero h)
-lowest-true (suc n) f p h e = go (f zero) refl p h e (λ p h e. lowest-true n (λ i. f (suc i)) p h e)
-  where
-    go : (b : Bool) → f zero ≡ b → (p : ℕ) → p < suc n → f p ≡ true
-        → ((p : ℕ) → p < n → f (suc p) ≡ true → (lowest n (λ i. f (suc i)) < n) × (f (suc (lowest n (λ i. f (suc i)))) ≡ true))
-        → (lowest (suc n) f < suc n) × (f (lowest (suc n) f) ≡ true)
-    go true z p h e below = rw (z, lowest) (zero-lt-suc n, z)
-    go false z zero h e below = absurd (true≢false (sym e ∙ z))
-    go false z (suc p) h e below = let t = below p (le-of-suc-le-suc h) e in rw (z, lowest) (suc-le-suc (t .0), t .1)
-
-pub lowest-same : (n : ℕ) (f g : ℕ → Bool) → ((p : ℕ) → p < n → f p ≡ g p) → lowest n f ≡ lowest n g
-lowest-same zero f g e = refl
-lowest-same (suc n) f g e =
-    ap₂ {C = ℕ} (λ (b : Bool) (k : ℕ). elim b [ true ↦ zero | false ↦ suc k ])
-    (e zero (zero-lt-suc n)) (lowest-same n (λ i. f (suc i)) (λ i. g (suc i)) (λ p h. e (suc p) (omega arith)))
+use Rattle.encoding.specs.Clauses.{Assignment, destination, decoded, Candidate, SameTable}
+use Rattle.encoding.specs.Lowest.{lowest-true, lowest-same}
 
 -- the candidate with the transitions δ and the marks μ
 abbrev pub table : Task → (ℕ → ℕ → ℕ) → (ℕ → ℕ → ℕ → Bool) → Aut

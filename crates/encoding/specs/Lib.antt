@@ -1,5 +1,6 @@
 pub mod Variables
 pub mod Clauses
+pub mod SameTables
 pub mod Loops
 pub mod MarkSets
 pub mod Membership
@@ -9,6 +10,7 @@ pub mod WellPosed
 pub mod Satisfaction
 pub mod Constraints
 pub mod Literals
+pub mod Lowest
 pub mod Decoding
 pub mod Numbering
 pub mod Blocks

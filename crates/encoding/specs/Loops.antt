@@ -10,7 +10,8 @@ use lib.Arith.{digits-div, digits-mod}
 use lib.Dec.{ltb}
 use lib.ListN.{length, length-append}
 use borrow.Author.Tests.{lt-ltb, le-ltb}
-use Rattle.encoding.specs.Clauses.{each, only, bit}
+use Rattle.meaning.specs.BitSet.{bit}
+use Rattle.encoding.specs.Clauses.{each, only}
 
 -- ---- members
 module _ {A : Type 0} {a : A} where

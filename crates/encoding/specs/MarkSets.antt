@@ -7,17 +7,13 @@ use native.Mathlib.Omega.{arith}
 use lib.Arith.{digits-div, digits-mod, lt-one}
 use lib.Dec.{eqb}
 use borrow.Author.Tests.{eq-eqb, eqb-true}
-use Rattle.meaning.specs.BitSet.{has, digit, full-mod, mod-full}
+use Rattle.meaning.specs.BitSet.{digit, bit, has, digit-bit, full-mod, mod-full}
 use Rattle.meaning.specs.Tests.{all, same-truth}
-use Rattle.encoding.specs.Clauses.{bit, set-of}
+use Rattle.encoding.specs.Clauses.{set-of}
 
 bit-lt : (b : Bool) → bit b < 2
 bit-lt true = omega arith
 bit-lt false = omega arith
-
-digit-bit : (b : Bool) → digit (bit b) ≡ b
-digit-bit true = refl
-digit-bit false = refl
 
 bit-digit : (x : ℕ) → x < 2 → bit (digit x) ≡ x
 bit-digit zero h = refl

@@ -6,20 +6,14 @@ use mathlib.Core.List.{List, [], _∷_, _++_, List·Memᴰ, List·Memᴰ·head, 
 use Prim.Native.Nat.{ℕ, zero, suc, _<_}
 use native.Mathlib.Nat.{not-suc-le-zero}
 use lib.IntN.{ℤ, pos, negℤ}
-use Rattle.meaning.specs.Tests.{truth, any, any-at, any-find}
+use borrow.Author.Tests.{not-false}
+use Rattle.meaning.specs.Tests.{truth, any, any-find, any-false}
 use Rattle.encoding.specs.Clauses.{Assignment, holds, Satisfied, each}
 use Rattle.encoding.specs.Loops.{each-in, each-elim}
 
 pub holds-neg : (ν : Assignment) (k : ℕ) → 0 < k → holds ν (negℤ (pos k)) ≡ not (ν k)
 holds-neg ν zero h = absurd (not-suc-le-zero h)
 holds-neg ν (suc k) h = refl
-
-any-false : (k : ℕ) (f : ℕ → Bool) → any k f ≡ false → (i : ℕ) → i < k → f i ≡ false
-any-false k f e i h = go (truth (f i))
-  where
-    go : (f i ≡ true) ⊎ (f i ≡ false) → f i ≡ false
-    go (inl t) = absurd (true≢false (sym (any-at k f i h t) ∙ e))
-    go (inr t) = t
 
 module _ (ν : Assignment) where
   pub no-literal : Satisfied ν [] ↔ ⊥
@@ -70,8 +64,4 @@ module _ (ν : Assignment) where
   -- "the variable, negative if b" is false just where the assignment says b
   pub signed-false : {k : ℕ} → 0 < k → (b : Bool) → (holds ν (cond b (negℤ (pos k)) (pos k)) ≡ false) ↔ (ν k ≡ b)
   signed-false {k} from-1 true = (λ e. not-false (ν k) (sym (holds-neg ν k from-1) ∙ e), λ e. holds-neg ν k from-1 ∙ ap not e)
-    where
-      not-false : (b : Bool) → not b ≡ false → b ≡ true
-      not-false true h = refl
-      not-false false h = sym h
   signed-false from-1 false = (λ e. e, λ e. e)

@@ -18,7 +18,7 @@ use Rattle.encoding.specs.MarkSets.{set-of-lt, has-set-of}
 use Rattle.encoding.specs.WellPosed.{WellPosed, node-present, extension-present}
 use Rattle.encoding.specs.Constraints.{Constraints, Marked}
 use Rattle.encoding.specs.History.{history, history-accept}
-use Rattle.encoding.specs.Decoding.{lowest-true}
+use Rattle.encoding.specs.Lowest.{lowest-true}
 
 module _ {T : Task} (W : WellPosed T) (num : Var → ℕ) (ν : Assignment) (h : Constraints T (λ x. ν (num x))) where
   abbrev R : Aut

@@ -1,7 +1,7 @@
 -- Laws of the acceptance condition: its tokens, and reading them one by one.
 use mathlib.Core.Path.{_≡_, refl, sym, ap, _∙_, subst}
 use mathlib.Core.Logic.{_≢_}
-use mathlib.Core.Bool.{Bool, true, false, cond, _||_}
+use mathlib.Core.Bool.{Bool, true, false, cond, _||_, and-false}
 use mathlib.Core.List.{List, [], _∷_}
 use Prim.Native.Nat.{ℕ, zero, suc, _+_, _-_, _*_, _/_, _%_, _≤_, _<_}
 use native.Mathlib.Numerals.{add-one}
@@ -24,12 +24,11 @@ use Rattle.scan.specs.declared.Token.{Token}
 use Rattle.scan.specs.declared.Token.the-variants.{Word, Item, Number, Quoted, Sign, Body, End, Abort, Unread, Over, Broken}
 use Rattle.scan.specs.Answers.{stream, Reads}
 use Rattle.scan.proofs.Token.{enum}
-use Rattle.hoa_names.proofs.Due.{number-due}
+use Rattle.scan.proofs.Due.{number-missing, number-due}
 use Rattle.hoa_header.specs.declared.acceptance.SetsRead.{SetsRead}
 use Rattle.hoa_header.specs.declared.acceptance.SetsRead.the-variants.{Sets, Refused}
 use Rattle.hoa_header.specs.Expected.{Past}
 use Rattle.hoa_header.specs.Acceptance.{SetsAnswered, ReadsSets, Accepted, Accepts, placed, tokenOf}
-use Rattle.hoa_header.proofs.Tokens.{and-none}
 
 -- ---- its tokens
 
@@ -145,7 +144,7 @@ goes-on s (Word o e) g = refl
 goes-on s (Item o e) g = absurd (miss (0 ∷ 2 ∷ 3 ∷ 4 ∷ 6 ∷ 7 ∷ 8 ∷ 9 ∷ 10 ∷ []) 1 tt g)
 goes-on s (Number o v e) g = refl
 goes-on s (Quoted o e) g = refl
-goes-on s (Sign o b) g = and-none (eqb 45 b)
+goes-on s (Sign o b) g = and-false (eqb 45 b)
 goes-on s (Body o) g = absurd (miss (0 ∷ 2 ∷ 3 ∷ 4 ∷ 6 ∷ 7 ∷ 8 ∷ 9 ∷ 10 ∷ []) 5 tt g)
 goes-on s (End o) g = refl
 goes-on s (Abort o) g = refl
@@ -193,7 +192,7 @@ module _ (s : List ℕ) (i : ℕ) where
 module _ (s : List ℕ) (i : ℕ) where
   pub sets-missing : (o : ℕ) (t : Token) → Reads s i t → OneOf (0 ∷ 1 ∷ 3 ∷ 4 ∷ 5 ∷ 6 ∷ 7 ∷ 8 ∷ 9 ∷ 10 ∷ []) (tagOf (declared enum) t) → o ≡ at (left s i)
       → ReadsSets s i (Refused (Form o))
-  sets-missing o t h g e k = ap (λ x. then x (setsGiven k (at (left s i)))) (number-due s i o t h g e)
+  sets-missing o t h g e k = ap (λ x. then x (setsGiven k (at (left s i)))) (number-due (left s i) o (number-missing s i t h g) e)
 
   module _ (o m e : ℕ) (h : Reads s i (Number o m e)) where
     pub sets-over : 4 < m → ReadsSets s i (Refused (Size o))

@@ -24,12 +24,12 @@ use Rattle.scan.specs.declared.Token.{Token}
 use Rattle.scan.specs.declared.Token.the-variants.{Number}
 use Rattle.scan.specs.Answers.{Reads}
 use Rattle.scan.proofs.Token.{enum}
+use Rattle.scan.proofs.Due.{number-missing, number-due}
 use Rattle.hoa_names.specs.declared.Names.{Names}
 use Rattle.hoa_names.specs.declared.NamesRead.{NamesRead}
 use Rattle.hoa_names.specs.declared.Step.{Step}
 use Rattle.hoa_names.specs.declared.Step.the-variants.{Next, Refused}
 use Rattle.hoa_names.specs.Answers.{NamesAnswered, ReadsNames}
-use Rattle.hoa_names.proofs.Due.{number-due}
 use Rattle.hoa_header.specs.declared.acceptance.SetsRead.{SetsRead}
 use Rattle.hoa_header.specs.declared.acceptance.SetsRead.the-variants as Given
 use Rattle.hoa_header.specs.declared.items.ItemRead.{ItemRead}
@@ -117,7 +117,7 @@ module _ (s : List ℕ) (o i : ℕ) (c : Code.Items) where
     pub states-missing : (r : ItemRead) (p : ℕ) (t : Token) → Reads s i t → OneOf (0 ∷ 1 ∷ 3 ∷ 4 ∷ 5 ∷ 6 ∷ 7 ∷ 8 ∷ 9 ∷ 10 ∷ []) (tagOf (declared enum) t) → p ≡ at (left s i)
         → r ≡ record { step = Refused (Form p); items = c } → ReadsStates s o i c r
     states-missing r p t h g q e =
-        came-refused (λ h. h .states) statesItem s o i c first-states r (Form p) e (λ k. ap (λ x. then x (statesGiven k (at (left s i)))) (number-due s i p t h g q))
+        came-refused (λ h. h .states) statesItem s o i c first-states r (Form p) e (λ k. ap (λ x. then x (statesGiven k (at (left s i)))) (number-due (left s i) p (number-missing s i t h g) q))
 
     pub states-read : (p n e : ℕ) → Reads s i (Number p n e) → (r : ItemRead) → StatesGiven p n e c r → ReadsStates s o i c r
     states-read p n e h r g = came-read (λ h. h .states) statesItem s o i c first-states r λ k q.
@@ -136,7 +136,7 @@ module _ (s : List ℕ) (o i : ℕ) (c : Code.Items) where
     pub start-missing : (r : ItemRead) (p : ℕ) (t : Token) → Reads s i t → OneOf (0 ∷ 1 ∷ 3 ∷ 4 ∷ 5 ∷ 6 ∷ 7 ∷ 8 ∷ 9 ∷ 10 ∷ []) (tagOf (declared enum) t) → p ≡ at (left s i)
         → r ≡ record { step = Refused (Form p); items = c } → ReadsStart s o i c r
     start-missing r p t h g q e =
-        came-refused (λ h. h .start) startItem s o i c first-start r (Form p) e (λ k. ap (λ x. then x (startGiven k (at (left s i)))) (number-due s i p t h g q))
+        came-refused (λ h. h .start) startItem s o i c first-start r (Form p) e (λ k. ap (λ x. then x (startGiven k (at (left s i)))) (number-due (left s i) p (number-missing s i t h g) q))
 
     pub start-kept : (p n e : ℕ) → Reads s i (Number p n e)
         → ReadsStart s o i c (record { step = Next e; items = withStart c n p })

@@ -1,6 +1,6 @@
 -- Laws of the whole header: the value without transitions, `--BODY--`, and the items one by one.
 use mathlib.Core.Path.{_≡_, refl, sym, ap, _∙_, subst}
-use mathlib.Core.Bool.{true, false, true≢false, false≢true}
+use mathlib.Core.Bool.{true, false, true≢false, false≢true, and-false}
 use mathlib.Core.List.{List, [], _∷_, _++_}
 use mathlib.Core.Option.{Option, none, some}
 use Prim.Native.Nat.{ℕ, zero, suc, _+_, _≤_, _<_}
@@ -12,12 +12,13 @@ use lib.ListN.{length, replicate, replicate-append-replicate}
 use lib.Seq.{slice}
 use denote.Enum.Declared.{tagOf, declared}
 use types.Run.{OneOf, miss}
+use Rattle.meaning.specs.Counting.{each}
 use Rattle.automaton.specs.declared.Automaton.{Automaton}
 use Rattle.automaton.specs.declared.refusal.Refusal.{Refusal}
 use Rattle.automaton.specs.declared.refusal.Refusal.the-variants.{Form, Undeclared}
 use Rattle.automaton.specs.declared.refusal.Refusal.the-variants as Because
 use Rattle.automaton.specs.Value.{empty}
-use Rattle.hoa_text.specs.Basics.{option, isSome, each}
+use Rattle.hoa_text.specs.Basics.{option, isSome}
 use Rattle.hoa_text.specs.Tokens.{item, Stream, stands}
 use Rattle.hoa_text.specs.Grammar.{isItem, isWord, at, gives, refuses, then, repeat, expect}
 use Rattle.hoa_text.specs.Header.{Items, Header, opening, opened, itemRead, noItems, header}
@@ -39,7 +40,6 @@ use Rattle.hoa_header.specs.Expected.{Past}
 use Rattle.hoa_header.specs.Kept.{kept, Turned, Turns, ReadsItem}
 use Rattle.hoa_header.specs.Answers.{Answered, Answers}
 use Rattle.hoa_header.specs.Opening.{ReadsItems, Opens, Unfilled}
-use Rattle.hoa_header.proofs.Tokens.{and-none}
 
 -- ---- the value without transitions
 
@@ -220,7 +220,7 @@ module _ (s : List ℕ) (i : ℕ) (c : Code.Items) (e : ℕ) (f : ItemsSoFar s i
       go h (Item o e) g = absurd (miss (0 ∷ 2 ∷ 3 ∷ 4 ∷ 6 ∷ 7 ∷ 8 ∷ 9 ∷ 10 ∷ []) 1 tt g)
       go h (Number o v e) g = refl
       go h (Quoted o e) g = refl
-      go h (Sign o b) g = rw (and-none (eqb 45 b))
+      go h (Sign o b) g = rw (and-false (eqb 45 b))
       go h (Body o) g = absurd (miss (0 ∷ 2 ∷ 3 ∷ 4 ∷ 6 ∷ 7 ∷ 8 ∷ 9 ∷ 10 ∷ []) 5 tt g)
       go h (End o) g = refl
       go h (Abort o) g = refl

@@ -1,7 +1,7 @@
 -- Laws of a token that may stand next.
 use mathlib.Core.Path.{_≡_, refl, sym, ap, _∙_}
 use mathlib.Core.Logic.{_≢_}
-use mathlib.Core.Bool.{Bool, true, false, _&&_}
+use mathlib.Core.Bool.{Bool, true, false}
 use mathlib.Core.List.{List, [], _∷_}
 use mathlib.Core.Option.{Option, none}
 use Prim.Native.Nat.{ℕ, _+_, _≤_, _<_}
@@ -21,12 +21,8 @@ use Rattle.scan.specs.declared.Token.{Token}
 use Rattle.scan.specs.declared.Token.the-variants.{Word, Item, Number, Quoted, Sign, Body, End, Abort, Unread, Over, Broken}
 use Rattle.scan.specs.Answers.{stream, Reads, isSignOf, Behind}
 use Rattle.scan.proofs.Token.{enum}
-use Rattle.hoa_names.proofs.Due.{number-missing}
+use Rattle.scan.proofs.Due.{number-missing}
 use Rattle.hoa_header.specs.Expected.{Past, isItemOf, isWordOf}
-
-pub and-none : (a : Bool) → (a && false) ≡ false
-and-none true = refl
-and-none false = refl
 
 -- ---- which token stands next
 

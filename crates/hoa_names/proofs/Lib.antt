@@ -1,4 +1,3 @@
-pub mod Due
 mod Slots
 mod Judged
 mod Text

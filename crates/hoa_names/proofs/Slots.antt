@@ -8,10 +8,12 @@ use native.Mathlib.Decide.{decLt, ℕ-discrete}
 use native.Mathlib.Numerals.{add-one}
 use native.Mathlib.Omega.{arith}
 use lib.ListN.{length, getD, take, drop, set, length-set, length-append, drop-of-length-le, List·getD-append, List·getD-eq-default}
-use lib.Seq.{slice, paste, paste-suc, length-paste-head, length-paste, length-take-le, drop-cons, getD-drop, getD-take, getD-at, getD-append-add, length-slice, ext-getD, getD-set-same, getD-set-other}
+use lib.Seq.{slice, paste, paste-suc, length-paste-head, length-paste, length-take-le, drop-cons, getD-drop, getD-take, getD-append-add, length-slice, ext-getD, getD-set-same, getD-set-other}
+use Rattle.meaning.specs.Counting.{each-length, each-at}
+use Rattle.automaton.specs.Rows.{rows-length, rows-at}
 use Rattle.hoa_text.specs.Basics.{same}
-use Rattle.hoa_text.specs.Counting.{each-length, each-at, rows-length, rows-at}
 use Rattle.hoa_text.specs.Header.{among}
+use Rattle.hoa_text.specs.Names.{last-name}
 use Rattle.hoa_names.specs.declared.Names.{Names}
 use Rattle.hoa_names.specs.Answers.{held}
 use Rattle.hoa_names.specs.Naming.{Slots, Holds}
@@ -94,9 +96,6 @@ module _ (d : List ℕ) (at : ℕ) (w : List ℕ) (h : at + length w ≤ length 
 
 -- one more name, last
 module _ (ws : List (List ℕ)) (w : List ℕ) where
-  pub last-name : (i : ℕ) → i ≡ length ws → getD (ws ++ (w ∷ [])) i [] ≡ w
-  last-name i e = getD-at ws w [] [] i (sym e)
-
   pub other-name : (i : ℕ) → i ≢ length ws → getD (ws ++ (w ∷ [])) i [] ≡ getD ws i []
   other-name i e = go (decLt i (length ws))
     where
@@ -116,7 +115,7 @@ module _ (ws : List (List ℕ)) (w : List ℕ) where
       go i l (yes e) =
           ap (λ n. getD (set (held ws .lengths) (length ws) (length w)) n 0) e
           ∙ getD-set-same (held ws .lengths) (length ws) (length w) 0 (omega (arith, held-lengths ws))
-          ∙ sym (held-length (ws ++ (w ∷ [])) i l ∙ ap length (last-name i e))
+          ∙ sym (held-length (ws ++ (w ∷ [])) i l ∙ ap length (last-name ws w i e))
       go i l (no e) =
           getD-set-other (held ws .lengths) (length ws) i (length w) 0 e
           ∙ held-length ws i l ∙ sym (held-length (ws ++ (w ∷ [])) i l ∙ ap length (other-name i e))
@@ -139,11 +138,11 @@ module _ (ws : List (List ℕ)) (w : List ℕ) where
           → getD (paste d (length ws * 16) w (length w)) (i * 16 + j) 0 ≡ getD (getD (ws ++ (w ∷ [])) i []) j 0
       go i j hi hj (yes e) (yes l) =
           ap (λ n. getD (paste d (length ws * 16) w (length w)) (n * 16 + j) 0) e ∙ pasted-inside d (length ws * 16) w fits j l
-          ∙ sym (ap (λ v. getD v j 0) (last-name i e))
+          ∙ sym (ap (λ v. getD v j 0) (last-name ws w i e))
       go i j hi hj (yes e) (no l) =
           pasted-behind d (length ws * 16) w fits (i * 16 + j) (omega arith) ∙ held-byte ws i j hi hj
           ∙ ap (λ v. getD v j 0) (List·getD-eq-default ws [] {n = i} (omega arith))
-          ∙ sym (ap (λ v. getD v j 0) (last-name i e) ∙ List·getD-eq-default w 0 {n = j} (omega arith))
+          ∙ sym (ap (λ v. getD v j 0) (last-name ws w i e) ∙ List·getD-eq-default w 0 {n = j} (omega arith))
       go i j hi hj (no e) l = outside (decLt i (length ws)) ∙ held-byte ws i j hi hj ∙ ap (λ v. getD v j 0) (sym (other-name i e))
         where
           outside : Dec (i < length ws) → getD (paste d (length ws * 16) w (length w)) (i * 16 + j) 0 ≡ getD d (i * 16 + j) 0

@@ -14,18 +14,19 @@ use Rattle.automaton.specs.declared.refusal.Refusal.the-variants.{Form, Size}
 use Rattle.hoa_text.specs.Grammar.{at, refuses, then}
 use Rattle.hoa_text.specs.Header.{Items, nameGiven, naming, namesRead, namesGiven, namesItem}
 use Rattle.hoa_text.specs.Offsets.{left}
+use Rattle.hoa_text.specs.Names.{last-name}
 use Rattle.scan.specs.declared.Token.{Token}
 use Rattle.scan.specs.declared.Token.the-variants.{Word, Item, Number, Quoted, Sign, Body, End, Abort, Unread, Over, Broken}
 use Rattle.scan.specs.Answers.{stream, Reads}
 use Rattle.scan.proofs.Token.{enum}
+use Rattle.scan.proofs.Due.{number-missing, number-due}
 use Rattle.hoa_names.specs.declared.Names.{Names}
 use Rattle.hoa_names.specs.declared.NamesRead.{NamesRead}
 use Rattle.hoa_names.specs.declared.Step.{Step}
 use Rattle.hoa_names.specs.declared.Step.the-variants.{Next, Refused}
 use Rattle.hoa_names.specs.Answers.{held, NamesAnswered, ReadsNames}
 use Rattle.hoa_names.specs.Naming.{Read, Answered, Answers, Roomy, Holds, More, MoreAnswered, OneMore, GivenAnswered, Given}
-use Rattle.hoa_names.proofs.Slots.{held-length, held-lengths, last-name, other-name}
-use Rattle.hoa_names.proofs.Due.{number-due}
+use Rattle.hoa_names.proofs.Slots.{held-length, held-lengths, other-name}
 
 -- ---- one name in the text
 
@@ -140,7 +141,7 @@ module _ (s : List ℕ) (i : ℕ) where
 
   pub no-count : (r : NamesRead) (o : ℕ) (t : Token) → Reads s i t → OneOf (0 ∷ 1 ∷ 3 ∷ 4 ∷ 5 ∷ 6 ∷ 7 ∷ 8 ∷ 9 ∷ 10 ∷ []) (tagOf (declared enum) t) → o ≡ at (left s i)
       → r ≡ record { step = Refused (Form o); names = held [] } → ReadsNames s i r
-  no-count r o t h g e q = refused-names r (Form o) q (λ k. ap (λ x. then x (namesGiven k (at (left s i)))) (number-due s i o t h g e))
+  no-count r o t h g e q = refused-names r (Form o) q (λ k. ap (λ x. then x (namesGiven k (at (left s i)))) (number-due (left s i) o (number-missing s i t h g) e))
 
   module _ (o k e : ℕ) (h : Reads s i (Number o k e)) where
     pub count-over : 4 < k → (r : NamesRead) → r ≡ record { step = Refused (Size o); names = held [] } → ReadsNames s i r

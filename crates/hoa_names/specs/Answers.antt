@@ -3,10 +3,10 @@ use mathlib.Core.Path.{_≡_}
 use mathlib.Core.List.{List, []}
 use Prim.Native.Nat.{ℕ, _≤_, _<_}
 use lib.ListN.{length, getD}
+use Rattle.automaton.specs.Value.{table, rows}
 use Rattle.hoa_text.specs.Grammar.{refuses}
 use Rattle.hoa_text.specs.Header.{Items, namesRead, namesItem}
 use Rattle.hoa_text.specs.Offsets.{left}
-use Rattle.hoa_text.specs.Reading.{table, rows}
 use Rattle.hoa_names.specs.declared.Names.{Names}
 use Rattle.hoa_names.specs.declared.NamesRead.{NamesRead}
 use Rattle.hoa_names.specs.declared.Step.{Step}

@@ -12,6 +12,7 @@ use lib.ListN.{length}
 use lib.Pow.{pow-lt}
 use Rattle.automaton.specs.declared.refusal.Refusal.{Refusal}
 use Rattle.automaton.specs.declared.refusal.Refusal.the-variants.{Form, Undeclared}
+use Rattle.automaton.specs.Powers.{power-is}
 use Rattle.hoa_text.specs.Tokens.{Stream, stands, over, broken}
 use Rattle.hoa_text.specs.Grammar.{numberOf, isSign, next, rest, at, gives, refuses, peek, due, then}
 use Rattle.hoa_text.specs.Labels.{Formula, label}
@@ -20,15 +21,15 @@ use Rattle.hoa_text.specs.Body.{Table, marks, marked, destinationGiven, labelGi
 use Rattle.hoa_text.specs.Offsets.{left}
 use Rattle.scan.specs.declared.Token.the-variants.{Number}
 use Rattle.scan.specs.Answers.{Reads, Behind}
+use Rattle.scan.proofs.Due.{number-due}
+use Rattle.scan.specs.Behind.{absent, present, behind-it}
 use Rattle.labels.specs.Answers.{Read}
-use Rattle.labels.proofs.Laws.{absent, present, behind-it}
 use Rattle.hoa_read.specs.declared.edges.MarksRead.{MarksRead}
 use Rattle.hoa_read.specs.declared.edges.MarksRead.the-variants as Marks
 use Rattle.hoa_read.specs.declared.edges.EdgeRead.{EdgeRead}
 use Rattle.hoa_read.specs.declared.edges.EdgeRead.the-variants.{To, Refused}
 use Rattle.hoa_read.specs.Marks.{Marked, MarksAnswer, ClosedAnswer}
 use Rattle.hoa_read.specs.Edges.{EdgeLies, EdgeMeans, EdgeAnswer, LabelledAnswer}
-use Rattle.hoa_read.proofs.TokenLaws.{number-due}
 
 -- ---- marks
 
@@ -62,8 +63,7 @@ module _ (s : List ℕ) (b n m i : ℕ) (j : Listed s b n m i) where
 
     pub mark-listed : v < n → n ≤ 4 → (p : ℕ) → p ≡ 2 ^ min v 4 → Listed s b n (bitOr m p) e
     mark-listed l g p k =
-        let v4 : min v 4 ≡ v = omega arith in
-        let is-p : p ≡ 2 ^ v = k ∙ ap (λ x. 2 ^ x) v4 in
+        let is-p : p ≡ 2 ^ v = power-is {k = v} (omega arith) k in
         let small-p : 2 ^ v < 16 = pow-lt {j = 4} (omega arith) in
         record {
           is = j .is ∙ ap (marks n m) (h .is) ∙ rw (lt-ltb v n l) (ap (λ x. marks n (bitOr m x) (left s e)) (sym is-p));

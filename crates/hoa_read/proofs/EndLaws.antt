@@ -5,11 +5,12 @@ use mathlib.Core.List.{List, [], _∷_}
 use mathlib.Core.Option.{Option, none, some}
 use Prim.Native.Nat.{ℕ, _^_, _≤_, _<_, min}
 use native.Mathlib.Omega.{arith}
+use borrow.Author.Tests.{not-false}
 use lib.Bits.{bitXor}
 use lib.ListN.{getD}
 use denote.Enum.Declared.{tagOf, declared}
 use types.Run.{OneOf, miss}
-use Rattle.meaning.specs.BitSet.{has}
+use Rattle.meaning.specs.BitSet.{has, has-not}
 use Rattle.automaton.specs.declared.Automaton.{Automaton}
 use Rattle.automaton.specs.declared.refusal.Refusal.{Refusal}
 use Rattle.automaton.specs.declared.refusal.Refusal.the-variants.{Form, Body, NoEdge}
@@ -18,14 +19,13 @@ use Rattle.hoa_text.specs.Grammar.{at, gives, refuses}
 use Rattle.hoa_text.specs.Header.{Header}
 use Rattle.hoa_text.specs.Body.{Table, letters}
 use Rattle.hoa_text.specs.Reading.{made, noBody, noEdge, whole, ended}
-use Rattle.hoa_text.specs.Counting.{none-first, first-some}
 use Rattle.hoa_text.specs.Offsets.{left}
+use Rattle.hoa_text.specs.First.{none-first, first-some}
 use Rattle.scan.specs.declared.Token.{Token}
 use Rattle.scan.specs.declared.Token.the-variants.{Word, Item, Number, Quoted, Sign, Abort, Unread, Over, Broken}
 use Rattle.scan.specs.declared.Token.the-variants as Token
 use Rattle.scan.specs.Answers.{stream, Reads}
 use Rattle.scan.proofs.Token.{enum}
-use Rattle.labels.proofs.LetterSets.{has-not}
 use Rattle.hoa_read.specs.declared.Reading.{Reading}
 use Rattle.hoa_read.specs.declared.missing.Gap.{Gap}
 use Rattle.hoa_read.specs.declared.missing.Gap.the-variants.{At, Nowhere}
@@ -43,10 +43,6 @@ use Rattle.hoa_read.proofs.PartLaws.{count-is}
 cond-not : {A : Type 0} (b : Bool) (x y : A) → cond b x y ≡ cond (not b) y x
 cond-not true x y = refl
 cond-not false x y = refl
-
-not-false : (b : Bool) → not b ≡ false → b ≡ true
-not-false true h = refl
-not-false false h = sym h
 
 -- the first of n numbers that is not in the set, by the lowest of those that are not
 module _ {A : Type 0} (set n r : ℕ) (most : n ≤ 16) (low : Lowest (bitXor set 65535) n r) (p : ℕ → Bool) (x : ℕ → A) (is : (i : ℕ) → i < n → has set i ≡ p i) where

@@ -1,6 +1,5 @@
 pub mod SetLaws
 pub mod TableLaws
-pub mod TokenLaws
 pub mod EdgeLaws
 pub mod PartLaws
 pub mod EndLaws

@@ -17,6 +17,7 @@ use Rattle.meaning.specs.BitSet.{has, has-and}
 use Rattle.automaton.specs.declared.Automaton.{Automaton}
 use Rattle.automaton.specs.declared.refusal.Refusal.{Refusal}
 use Rattle.automaton.specs.declared.refusal.Refusal.the-variants.{Form, Undeclared, Body, SecondEdge}
+use Rattle.automaton.specs.Powers.{power-is}
 use Rattle.hoa_text.specs.Basics.{option, isSome, bytes, same}
 use Rattle.hoa_text.specs.Tokens.{Stream}
 use Rattle.hoa_text.specs.Grammar.{numberOf, quotedOf, next, rest, at, gives, refuses, Parsed, peek, then, onward}
@@ -29,6 +30,7 @@ use Rattle.scan.specs.declared.Token.the-variants.{Word, Item, Number, Quoted, 
 use Rattle.scan.specs.declared.Token.the-variants as Token
 use Rattle.scan.specs.Answers.{stream, Reads}
 use Rattle.scan.proofs.Token.{enum}
+use Rattle.scan.proofs.Due.{number-due}
 use Rattle.labels.specs.Answers.{Satisfy}
 use Rattle.hoa_read.specs.declared.tables.Table as Code
 use Rattle.hoa_read.specs.declared.parts.Part.{Part}
@@ -41,7 +43,6 @@ use Rattle.hoa_read.specs.Marks.{Marked}
 use Rattle.hoa_read.specs.Edges.{EdgeAnswer}
 use Rattle.hoa_read.specs.Parts.{PartLies, BodyTurn, PartMeans, PartAnswer, StateAnswer, EdgePartAnswer, JudgedAnswer, Unquoted}
 use Rattle.hoa_read.proofs.SetLaws.{first-found, first-lacks}
-use Rattle.hoa_read.proofs.TokenLaws.{number-due}
 
 -- ---- a quoted text
 
@@ -104,9 +105,7 @@ module _ (s : List ℕ) (i n named : ℕ) where
 -- ---- marks, and a second edge
 
 pub count-is : (a : Automaton) (h : Header) (n : ℕ) → Bounded a → Opens a h → n ≡ 2 ^ min (a .propositions) 4 → letters h ≡ n
-count-is a h n b o e =
-    let m : min (a .propositions) 4 ≡ a .propositions = omega (arith, b .propositions-le) in
-    sym (e ∙ ap (λ k. 2 ^ k) (m ∙ ap (λ a. a .propositions) o))
+count-is a h n b o e = sym (power-is (b .propositions-le) e ∙ ap (λ a. 2 ^ a .propositions) o)
 
 -- behind the marks x of an edge
 abbrev markedTurn : Header → Table → ℕ → Formula → ℕ → Parsed ℕ → BodyTurn

@@ -1,26 +1,18 @@
 -- Laws of sets as numbers, and of their lowest members.
 use mathlib.Core.Path.{_≡_, refl, ap, _∙_}
-use mathlib.Core.Bool.{Bool, true, false, cond}
+use mathlib.Core.Bool.{cond}
 use mathlib.Core.Option.{Option, none, some}
-use Prim.Native.Nat.{ℕ, zero, suc, _/_, _%_, _*_, _^_, _≤_, _<_}
-use native.Mathlib.Nat.{mod-lt, mod-eq-of-lt, zero-lt-suc}
+use Prim.Native.Nat.{ℕ, _/_, _%_, _*_, _^_, _≤_, _<_}
+use native.Mathlib.Nat.{mod-eq-of-lt}
 use native.Mathlib.Omega.{arith}
 use borrow.Author.Tests.{eqb-true}
 use lib.Dec.{eqb}
 use lib.Pow.{pow-lt}
 use Rattle.meaning.specs.Tests.{all, all-at}
-use Rattle.meaning.specs.BitSet.{digit, has}
+use Rattle.meaning.specs.BitSet.{digit, bit, has, digit-bit}
 use Rattle.hoa_text.specs.Basics.{first}
-use Rattle.hoa_text.specs.Counting.{none-first, first-some}
+use Rattle.hoa_text.specs.First.{none-first, first-some}
 use Rattle.hoa_read.specs.Sets.{Lowest}
-
-digit-test : (d : ℕ) → d < 2 → eqb d 1 ≡ digit d
-digit-test zero h = refl
-digit-test (suc zero) h = refl
-digit-test (suc (suc d)) h = absurd (omega arith)
-
-pub has-test : (s i : ℕ) → eqb (s / 2 ^ i % 2) 1 ≡ has s i
-has-test s i = digit-test (s / 2 ^ i % 2) (mod-lt (s / 2 ^ i) (zero-lt-suc 1))
 
 -- ---- the set of i alone
 
@@ -29,15 +21,6 @@ single-is i h =
     let l : 2 ^ i < 65536 = pow-lt h in
     let e : 1 * 2 ^ i ≡ 2 ^ i = omega arith in
     rw e (mod-eq-of-lt l)
-
--- a test as a digit
-abbrev bit : Bool → ℕ
-bit true = 1
-bit false = 0
-
-digit-bit : (b : Bool) → digit (bit b) ≡ b
-digit-bit true = refl
-digit-bit false = refl
 
 pub has-single : (p q : ℕ) → p < 16 → q < 16 → has (2 ^ p) q ≡ eqb q p
 has-single p q hp hq =

@@ -13,14 +13,16 @@ use lib.Dec.{ltb, eqb}
 use lib.ListN.{length, getD, set, replicate, length-set, getD-replicate}
 use lib.Seq.{ext-getD, getD-set-same, getD-set-other}
 use Rattle.meaning.specs.BitSet.{has, has-or, has-zero}
+use Rattle.meaning.specs.Counting.{each-at}
 use Rattle.automaton.specs.declared.Automaton.{Automaton}
+use Rattle.automaton.specs.Value.{rows}
+use Rattle.automaton.specs.Rows.{rows-length}
 use Rattle.hoa_text.specs.Basics.{option, isSome}
 use Rattle.hoa_text.specs.Labels.{Formula, holds}
 use Rattle.hoa_text.specs.Header.{Header}
 use Rattle.hoa_text.specs.Body.{Edge, letters, withEdge}
 use Rattle.hoa_text.specs.Body as Hoa
-use Rattle.hoa_text.specs.Reading.{rows, made}
-use Rattle.hoa_text.specs.Counting.{each-at, rows-length}
+use Rattle.hoa_text.specs.Reading.{made}
 use Rattle.labels.specs.Answers.{Satisfy}
 use Rattle.hoa_read.specs.declared.tables.Table.{Table}
 use Rattle.hoa_read.specs.Opened.{Opens}

@@ -8,12 +8,12 @@ use lib.Dec.{ltb, eqb}
 use lib.ListN.{length, getD}
 use Rattle.meaning.specs.BitSet.{has}
 use Rattle.automaton.specs.declared.Automaton.{Automaton}
+use Rattle.automaton.specs.Value.{rows}
 use Rattle.hoa_text.specs.Basics.{option, isSome}
 use Rattle.hoa_text.specs.Labels.{Formula}
 use Rattle.hoa_text.specs.Header.{Header}
 use Rattle.hoa_text.specs.Body.{letters, noStates, withState, withEdge}
 use Rattle.hoa_text.specs.Body as Hoa
-use Rattle.hoa_text.specs.Reading.{rows}
 use Rattle.labels.specs.Answers.{Satisfy}
 use Rattle.hoa_read.specs.Opened.{Opens}
 use Rattle.hoa_read.specs.declared.tables.Table.{Table}

@@ -3,10 +3,11 @@ use mathlib.Core.Path.{_≡_, refl, subst}
 use mathlib.Core.Bool.{Bool, true, false, cond}
 use mathlib.Core.List.{List}
 use mathlib.Core.Option.{Option, none, some}
-use Prim.Native.Nat.{ℕ, _<_}
+use Prim.Native.Nat.{ℕ}
 use native.Mathlib.Omega.{arith}
 use lib.Dec.{leb}
 use lib.ListN.{length}
+use Rattle.meaning.specs.Tests.{on-cond}
 use Rattle.automaton.specs.declared.Automaton.{Automaton}
 use Rattle.automaton.specs.declared.refusal.Refusal.{Refusal}
 use Rattle.automaton.specs.declared.refusal.Refusal.the-variants.{Size, NoEdge}
@@ -17,11 +18,11 @@ use Rattle.hoa_text.specs.Grammar.{gives, refuses, then}
 use Rattle.hoa_text.specs.Header.{Header, header}
 use Rattle.hoa_text.specs.Body.{Table, letters, body}
 use Rattle.hoa_text.specs.Reading.{made, noBody, noEdge, whole, ended, reading, read}
-use Rattle.hoa_text.specs.Repetition.{Every, every-then, on-cond}
-use Rattle.hoa_text.specs.Counting.{first-none}
+use Rattle.hoa_text.specs.Repetition.{Every, every-then}
 use Rattle.hoa_text.specs.HeaderFits.{HeaderFits, header-fits}
 use Rattle.hoa_text.specs.TableFits.{TableFits, body-fits}
 use Rattle.hoa_text.specs.Made.{Full, made-valid}
+use Rattle.hoa_text.specs.First.{first-none}
 
 nothing-missing : (h : Header) (t : Table) → noEdge h t ≡ none → Full h t
 nothing-missing h t e q l hq hl = go (isSome (t .edge q l)) (first-none (letters h) _ (first-none (h .states) _ e q hq) l hl)

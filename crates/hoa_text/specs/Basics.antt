@@ -1,6 +1,6 @@
 -- DEFINITIONS, 1 of 8: what the others choose, count and compare with.
 use mathlib.Core.Bool.{Bool, true, false, _&&_}
-use mathlib.Core.List.{List, [], _∷_, _++_}
+use mathlib.Core.List.{List, [], _∷_}
 use mathlib.Core.Option.{Option, none, some}
 use Prim.Native.Char.{code}
 use Prim.Native.String.{String}
@@ -15,13 +15,6 @@ option (some a) b f = f a
 abbrev pub isSome : {A : Type 0} → Option A → Bool
 isSome none = false
 isSome (some a) = true
-
--- ---- by counting
-
--- f 0, f 1, .., n of them, one after another
-abbrev pub each : {A : Type 0} → ℕ → (ℕ → List A) → List A
-each zero f = []
-each (suc n) f = each n f ++ f n
 
 -- the first that there is among f 0, f 1, .., n of them
 abbrev pub first : {A : Type 0} → ℕ → (ℕ → Option A) → Option A

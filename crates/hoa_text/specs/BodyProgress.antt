@@ -2,11 +2,12 @@
 use mathlib.Core.Path.{_≡_}
 use mathlib.Core.Bool.{true, cond}
 use mathlib.Core.Option.{Option, none, some}
-use Prim.Native.Nat.{ℕ, suc, _≤_, _<_, _^_}
+use Prim.Native.Nat.{ℕ, suc, _≤_, _^_}
 use native.Mathlib.Omega.{arith}
 use lib.Bits.{bitOr}
 use lib.Dec.{ltb}
 use lib.ListN.{length}
+use Rattle.meaning.specs.Tests.{on-cond}
 use Rattle.automaton.specs.declared.refusal.Refusal.{Refusal}
 use Rattle.automaton.specs.declared.refusal.Refusal.the-variants.{Form, Undeclared}
 use Rattle.hoa_text.specs.Basics.{option, isSome}
@@ -15,8 +16,8 @@ use Rattle.hoa_text.specs.Grammar.{numberOf, quotedOf, isItem, isSign, n
 use Rattle.hoa_text.specs.Labels.{Formula, label}
 use Rattle.hoa_text.specs.Header.{Header}
 use Rattle.hoa_text.specs.Body.{Table, unquoted, stateGiven, stateItem, marks, marked, withEdge, secondEdge, marksGiven, destinationGiven, labelGiven, edge, bodyRead}
-use Rattle.hoa_text.specs.Repetition.{Every, on-cond, Fewer, Shrinks, repeat-turn}
-use Rattle.hoa_text.specs.Progress.{rest-size, next-size, Leaves, rest-leaves, most-leaves, then-leaves, due-leaves, expect-leaves, onward-fewer}
+use Rattle.hoa_text.specs.Repetition.{Every, Fewer, Shrinks, repeat-turn}
+use Rattle.hoa_text.specs.Progress.{rest-size, Leaves, rest-leaves, most-leaves, then-leaves, due-leaves, expect-leaves, onward-fewer}
 use Rattle.hoa_text.specs.LabelProgress.{label-leaves}
 
 -- ---- a state

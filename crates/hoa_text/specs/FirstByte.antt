@@ -1,6 +1,6 @@
 -- What the first byte of a text says of its first token.
 use mathlib.Core.Path.{_≡_, refl, sym, ap, _∙_}
-use mathlib.Core.Bool.{Bool, true, false, cond, _&&_, true≢false}
+use mathlib.Core.Bool.{Bool, true, false, true≢false}
 use mathlib.Core.List.{List, [], _∷_}
 use mathlib.Core.Option.{Option, none, some}
 use Prim.Native.Nat.{ℕ, suc, _<_}
@@ -9,9 +9,9 @@ use native.Mathlib.Omega.{arith}
 use borrow.Author.Tests.{eqb-true}
 use lib.Dec.{eqb}
 use lib.ListN.{length, getD, drop}
-use Rattle.meaning.specs.Tests.{and-left}
+use Rattle.meaning.specs.Tests.{and-left, on-cond}
 use Rattle.hoa_text.specs.Basics.{begins}
-use Rattle.hoa_text.specs.Tokens.{blank, digit, opensWord, inWord, Token, word, item, number, quoted, sign, unread, Piece, gap, token, cut, stray, run, leadingZero, value, numeral, identifier, inQuotes, string, alias, signs, signAt, piece, Stream, placed}
+use Rattle.hoa_text.specs.Tokens.{blank, digit, opensWord, inWord, Token, word, item, number, quoted, sign, unread, Piece, gap, token, cut, stray, run, leadingZero, value, numeral, inQuotes, string, alias, signs, signAt, piece, Stream, placed}
 use Rattle.hoa_text.specs.Grammar.{next}
 use Rattle.hoa_text.specs.Offsets.{left, left-over, left-piece}
 
@@ -38,13 +38,9 @@ placed-no p (token t n) h o e go = h
 placed-no p cut h o e go = refl
 placed-no p stray h o e go = refl
 
-either : {A : Type 0} (P : A → Type 0) (t : Bool) (x y : A) → (t ≡ true → P x) → (t ≡ false → P y) → P (cond t x y)
-either P true x y h k = h refl
-either P false x y h k = k refl
-
 module _ (b : ℕ) (p : Token → Bool) (n : Excludes b p) where
   no-numeral : (w : List ℕ) → digit b ≡ true → p (numeral w) ≡ false
-  no-numeral w d = either (λ t. p t ≡ false) (leadingZero w) unread (number (value w)) (λ e. n .others) (λ e. n .numbers d (value w))
+  no-numeral w d = on-cond (λ t. p t ≡ false) (leadingZero w) unread (number (value w)) (λ e. n .others) (λ e. n .numbers d (value w))
 
   no-text : (x : Option (List ℕ)) → may p (string x) ≡ false
   no-text none = refl
@@ -56,7 +52,7 @@ module _ (b : ℕ) (p : Token → Bool) (n : Excludes b p) where
 
   no-signs : (ws : List (List ℕ)) (r : List ℕ) → may p (signAt ws (b ∷ r)) ≡ false
   no-signs [] r = refl
-  no-signs (w ∷ ws) r = either (λ x. may p x ≡ false) (begins w (b ∷ r)) _ _ (λ e. head w e) (λ e. no-signs ws r)
+  no-signs (w ∷ ws) r = on-cond (λ x. may p x ≡ false) (begins w (b ∷ r)) _ _ (λ e. head w e) (λ e. no-signs ws r)
     where
       head : (w : List ℕ) → begins w (b ∷ r) ≡ true → p (sign w) ≡ false
       head [] e = n .nothing
@@ -67,10 +63,10 @@ module _ (b : ℕ) (p : Token → Bool) (n : Excludes b p) where
       let tail = run inWord r in
       let c = getD r (length tail) 0 in
       let P : Piece → Type 0 = λ x. may p x ≡ false in
-      either P (blank b) _ _ (λ e. absurd (true≢false (sym e ∙ h)))
-      (λ e. either P (digit b) _ _ (λ d. no-numeral (b ∷ run digit r) d)
-      (λ d. either P (opensWord b) _ _ (λ w. either P (eqb c 58) _ _ (λ e. n .items (b ∷ tail)) (λ e. n .words d (b ∷ tail)))
-      (λ w. either P (eqb b 34) _ _ (λ q. no-text (inQuotes false r)) (λ q. either P (eqb b 64) _ _ (λ a. no-alias tail) (λ a. no-signs signs r)))))
+      on-cond P (blank b) _ _ (λ e. absurd (true≢false (sym e ∙ h)))
+      (λ e. on-cond P (digit b) _ _ (λ d. no-numeral (b ∷ run digit r) d)
+      (λ d. on-cond P (opensWord b) _ _ (λ w. on-cond P (eqb c 58) _ _ (λ e. n .items (b ∷ tail)) (λ e. n .words d (b ∷ tail)))
+      (λ w. on-cond P (eqb b 34) _ _ (λ q. no-text (inQuotes false r)) (λ q. on-cond P (eqb b 64) _ _ (λ a. no-alias tail) (λ a. no-signs signs r)))))
 
 -- past the end of a text stands 0, which begins no token
 pub excluded : (s : List ℕ) (i : ℕ) (p : Token → Bool) → blank (getD s i 0) ≡ false → Excludes (getD s i 0) p → next p (left s i) ≡ false

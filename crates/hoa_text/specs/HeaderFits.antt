@@ -9,12 +9,12 @@ use borrow.Author.Tests.{ltb-true, leb-true}
 use lib.Dec.{ltb, leb}
 use lib.ListN.{length, length-append}
 use Rattle.automaton.specs.Value.{printable}
-use Rattle.meaning.specs.Tests.{and-left, and-right}
+use Rattle.meaning.specs.Tests.{and-left, and-right, on-cond}
 use Rattle.hoa_text.specs.Basics.{option, isSome}
 use Rattle.hoa_text.specs.Tokens.{Token, Stream}
 use Rattle.hoa_text.specs.Grammar.{itemOf, numberOf, quotedOf, isWord, isItem, isSign, next, rest, at, Result, gives, refuses, Parsed, due, Turn, onward}
 use Rattle.hoa_text.specs.Header.{Items, Header, allBytes, among, once, statesGiven, statesItem, startGiven, startItem, nameGiven, naming, namesRead, namesGiven, namesItem, condition, accepting, setsRead, setsGiven, setsItem, small, noItems, opening, opened, itemRead, header}
-use Rattle.hoa_text.specs.Repetition.{Every, every-then, every-after, every-onward, on-cond, Both, every-repeat}
+use Rattle.hoa_text.specs.Repetition.{Every, every-then, every-after, every-onward, Both, every-repeat}
 use Rattle.hoa_text.specs.HeaderProgress.{every-departs}
 use Rattle.hoa_text.specs.Names.{Names, no-names, more-names}
 

@@ -7,13 +7,14 @@ use Prim.Native.Nat.{ℕ, zero, suc, _≤_, _<_}
 use native.Mathlib.Omega.{arith}
 use lib.Dec.{ltb, leb}
 use lib.ListN.{length}
+use Rattle.meaning.specs.Tests.{on-cond}
 use Rattle.automaton.specs.Value.{printable}
 use Rattle.hoa_text.specs.Basics.{option, isSome}
 use Rattle.hoa_text.specs.Tokens.{Token, Stream, stands, over, broken}
 use Rattle.hoa_text.specs.Grammar.{numberOf, quotedOf, itemOf, isItem, isSign, next, rest, at, Result, gives, refuses, Parsed, due, onward, Turn, turn, size, repeat}
 use Rattle.hoa_text.specs.Header.{Items, Header, allBytes, among, once, statesGiven, statesItem, startGiven, startItem, nameGiven, naming, namesRead, namesGiven, namesItem, condition, departs, accepting, setsRead, setsGiven, setsItem, plain, skipped, small, opening, opened, itemRead}
-use Rattle.hoa_text.specs.Repetition.{Every, every-after, on-cond, Fewer, Shrinks, repeat-turn}
-use Rattle.hoa_text.specs.Progress.{rest-size, next-size, Leaves, rest-leaves, most-leaves, then-leaves, due-leaves, onward-fewer}
+use Rattle.hoa_text.specs.Repetition.{Every, every-after, Fewer, Shrinks, repeat-turn}
+use Rattle.hoa_text.specs.Progress.{rest-size, next-size, Leaves, most-leaves, then-leaves, due-leaves, onward-fewer}
 
 -- ---- the items
 

@@ -5,10 +5,11 @@ use Prim.Native.Nat.{ℕ, zero, suc, _≤_, _<_}
 use Prim.Native.String.{String}
 use native.Mathlib.Omega.{arith}
 use lib.Dec.{ltb}
+use Rattle.meaning.specs.Tests.{on-cond}
 use Rattle.hoa_text.specs.Tokens.{Stream}
 use Rattle.hoa_text.specs.Grammar.{numberOf, isWord, isSign, next, rest, at, gives, Parsed, then, due, Turn, again, turn, size, repeat}
 use Rattle.hoa_text.specs.Labels.{Formula, conjunction, disjunction, propositionGiven, atom, operation, operands, conjunctions, disjunctions, negated, closed, unary, deepest, label}
-use Rattle.hoa_text.specs.Repetition.{Every, every-then, on-cond, Both, every-both, every-repeat, Fewer, Shrinks, repeat-turn}
+use Rattle.hoa_text.specs.Repetition.{Every, every-then, Both, every-both, every-repeat, Shrinks, repeat-turn}
 use Rattle.hoa_text.specs.Progress.{rest-size, next-size, Leaves, rest-leaves, then-leaves, due-leaves, expect-leaves}
 
 proposition-leaves : (k o i : ℕ) (s : Stream) → Leaves (suc (size s)) (propositionGiven k o i s)

@@ -6,7 +6,7 @@ pub mod Header
 pub mod Body
 pub mod Reading
 pub mod Written
-pub mod Counting
+pub mod First
 pub mod Numbers
 pub mod Names
 pub mod Repetition

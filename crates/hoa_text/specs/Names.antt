@@ -1,20 +1,20 @@
 -- Laws of the names: what the reader asks of them, and that those of a valid value meet it.
 use mathlib.Core.Path.{_≡_, refl, sym, ap, _∙_, subst}
 use mathlib.Core.Logic.{_≢_}
-use mathlib.Core.Bool.{Bool, true, false, not, _&&_, _||_, true≢false}
+use mathlib.Core.Bool.{Bool, true, false, _||_, true≢false}
 use mathlib.Core.List.{List, [], _∷_, _++_}
 use Prim.Native.Nat.{ℕ, zero, suc, _≤_, _<_}
 use native.Mathlib.Decide.{decLt}
 use native.Mathlib.Nat.{not-suc-le-zero}
 use native.Mathlib.Omega.{arith}
-use borrow.Author.Tests.{le-leb, ne-eqb, eq-eqb, leb-true, eqb-true, eqb-false, not-true}
-use lib.Dec.{leb, eqb}
+use borrow.Author.Tests.{eq-eqb, eqb-true}
+use lib.Dec.{eqb}
 use lib.ListN.{length, getD, length-append, List·getD-append}
 use lib.Seq.{getD-at}
 use Rattle.meaning.specs.Tests.{and-true, and-left, and-right, or-false}
 use Rattle.automaton.specs.declared.Automaton.{Automaton}
 use Rattle.automaton.specs.Names.{slot-length, slot-byte, means-printable}
-use Rattle.automaton.specs.Value.{printable, NameByte, Valid, name, nameLength, nameByte}
+use Rattle.automaton.specs.Value.{printable, Valid, name, nameLength, nameByte}
 use Rattle.hoa_text.specs.Basics.{same}
 use Rattle.hoa_text.specs.Header.{allBytes, among}
 
@@ -75,8 +75,8 @@ module _ (ws : List (List ℕ)) (w : List ℕ) where
   before-last : (i : ℕ) → i < length ws → getD (ws ++ (w ∷ [])) i [] ≡ getD ws i []
   before-last i h = List·getD-append ws (w ∷ []) [] i h
 
-  last : (i : ℕ) → i ≡ length ws → getD (ws ++ (w ∷ [])) i [] ≡ w
-  last i e = getD-at ws w [] [] i (sym e)
+  pub last-name : (i : ℕ) → i ≡ length ws → getD (ws ++ (w ∷ [])) i [] ≡ w
+  last-name i e = getD-at ws w [] [] i (sym e)
 
   -- what holds of the names and of one more holds of all
   both-hold : (P : List ℕ → Type 0) → ((i : ℕ) → i < length ws → P (getD ws i [])) → P w → (i : ℕ) → i < length (ws ++ (w ∷ [])) → P (getD (ws ++ (w ∷ [])) i [])
@@ -84,7 +84,7 @@ module _ (ws : List (List ℕ)) (w : List ℕ) where
     where
       go : Dec (i < length ws) → P (getD (ws ++ (w ∷ [])) i [])
       go (yes e) = subst P (sym (before-last i e)) (h i e)
-      go (no e) = subst P (sym (last i (omega (arith, length-append ws (w ∷ []))))) g
+      go (no e) = subst P (sym (last-name i (omega (arith, length-append ws (w ∷ []))))) g
 
   pub more-names : Names ws → 1 ≤ length w → length w ≤ 16 → allBytes printable w ≡ true → among w ws ≡ false → Names (ws ++ (w ∷ []))
   more-names n h₁ h₂ h₃ h₄ = record {
@@ -98,7 +98,7 @@ module _ (ws : List (List ℕ)) (w : List ℕ) where
       go i j l g (yes e) q = n .none-alike i j l e (sym (before-last i (omega arith)) ∙ q ∙ before-last j e)
       go i j l g (no e) q =
           let k : j ≡ length ws = omega (arith, length-append ws (w ∷ [])) in
-          among-not w ws h₄ i (omega arith) (sym (before-last i (omega arith)) ∙ q ∙ last j k)
+          among-not w ws h₄ i (omega arith) (sym (before-last i (omega arith)) ∙ q ∙ last-name j k)
 
 -- ---- the names of a value
 

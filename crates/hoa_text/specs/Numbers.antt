@@ -1,14 +1,32 @@
--- Laws of numbers in a text: their value digit by digit, and that saturating changes no comparison with a limit.
+-- Laws of numbers in a text: their digits, their value digit by digit, and that saturating changes no comparison with a limit.
 use mathlib.Core.Path.{_≡_, refl, ap, _∙_}
 use mathlib.Core.Logic.{_↔_}
-use mathlib.Core.Bool.{false}
+use mathlib.Core.Bool.{true, false, and-false}
 use mathlib.Core.List.{List, [], _∷_, _++_}
 use Prim.Native.Nat.{ℕ, suc, _+_, _-_, _*_, _≤_, _<_, min}
 use native.Mathlib.Omega.{arith}
-use lib.Dec.{eqb}
+use borrow.Author.Tests.{leb-true, le-leb, lt-leb}
+use lib.Dec.{leb, eqb}
 use lib.ListN.{length, getD, take, drop}
 use lib.Seq.{slice, slice-cons, slice-empty, take-suc, drop-append-le, length-take-le}
-use Rattle.hoa_text.specs.Tokens.{decimalValue, leadingZero, value}
+use Rattle.meaning.specs.Tests.{and-left}
+use Rattle.hoa_text.specs.Tokens.{digit, decimalValue, leadingZero, value}
+
+-- ---- digits
+
+pub digit-from : (b : ℕ) → digit b ≡ true → 48 ≤ b
+digit-from b h = leb-true 48 b (and-left (leb 48 b) (leb b 57) h)
+
+pub digit-between : (b : ℕ) → 48 ≤ b → b ≤ 57 → digit b ≡ true
+digit-between b h g = rw (le-leb 48 b h, le-leb b 57 g)
+
+pub below-digits : (b : ℕ) → b < 48 → digit b ≡ false
+below-digits b h = rw (lt-leb 48 b h)
+
+pub above-digits : (b : ℕ) → 57 < b → digit b ≡ false
+above-digits b h = rw (lt-leb b 57 h) (and-false (leb 48 b))
+
+-- ---- values
 
 -- a limit up to 255 is kept by the value exactly if it is kept by the number
 pub saturates : (v limit : ℕ) → limit ≤ 255 → (min v 255 < limit) ↔ (v < limit)

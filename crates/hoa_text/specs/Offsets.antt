@@ -1,22 +1,19 @@
 -- The tokens from an offset on, for a reader that goes by offsets: what stands there, and blanks. The kinds of tokens follow in
 -- `RunOffsets` (numbers, words, item names), `QuotedOffsets` and `SignOffsets`.
-use mathlib.Core.Path.{_≡_, refl, ap, _∙_}
+use mathlib.Core.Path.{_≡_, ap, _∙_}
 use mathlib.Core.Logic.{_≢_}
-use mathlib.Core.Bool.{true, cond}
+use mathlib.Core.Bool.{true}
 use mathlib.Core.List.{List, [], _∷_}
 use Prim.Native.Nat.{ℕ, zero, suc, _+_, _≤_, _<_}
 use native.Mathlib.Decide.{decLt}
 use native.Mathlib.Omega.{arith}
 use lib.ListN.{length, getD, drop, length-drop, drop-of-length-le, List·getD-eq-default}
 use lib.Seq.{drop-cons, drop-drop}
-use Rattle.hoa_text.specs.Tokens.{blank, Token, Piece, gap, token, cut, stray, piece, Stream, stands, over, broken, placed, lex, tokens}
+use Rattle.hoa_text.specs.Tokens.{blank, Token, Piece, gap, token, cut, stray, piece, Stream, stands, over, broken, placed, lex}
 
 -- what follows the offset i
 abbrev pub left : List ℕ → ℕ → Stream
 left s i = lex (drop i s) 0 i
-
-pub left-all : (s : List ℕ) → tokens s ≡ left s 0
-left-all s = refl
 
 pub left-over : (s : List ℕ) (i : ℕ) → length s ≤ i → left s i ≡ over i
 left-over s i h = ap (λ r. lex r 0 i) (drop-of-length-le s h)
@@ -28,6 +25,9 @@ inside s i h = go (decLt i (length s))
     go : Dec (i < length s) → i < length s
     go (yes e) = e
     go (no e) = absurd (h (List·getD-eq-default s 0 (omega arith)))
+
+pub byte-inside : (s : List ℕ) (i b : ℕ) → getD s i 0 ≡ suc b → i < length s
+byte-inside s i b h = inside s i (omega arith)
 
 -- ---- pieces
 

@@ -10,7 +10,7 @@ use borrow.Author.Tests.{ne-eqb}
 use lib.Dec.{eqb}
 use lib.ListN.{length, getD, drop}
 use lib.Seq.{slice, slice-empty, length-slice, drop-cons, drop-length}
-use Rattle.hoa_text.specs.Tokens.{quoted, cut, inQuotes, string, piece, stands, broken}
+use Rattle.hoa_text.specs.Tokens.{quoted, inQuotes, string, piece, stands, broken}
 use Rattle.hoa_text.specs.Numbers.{slice-more}
 use Rattle.hoa_text.specs.Offsets.{left, inside, pieceAt, left-token, left-cut}
 

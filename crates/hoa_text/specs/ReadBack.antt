@@ -10,23 +10,24 @@ use lib.Dec.{ltb}
 use lib.ListN.{length, getD}
 use lib.Pow.{pow-mono}
 use Rattle.meaning.specs.BitSet.{has}
+use Rattle.meaning.specs.Counting.{each, each-length, each-at}
 use Rattle.automaton.specs.declared.Automaton.{Automaton}
 use Rattle.automaton.specs.declared.refusal.Refusal.the-variants.{Size, Body, NoEdge}
 use Rattle.automaton.specs.Equality.{Same, equal-values}
 use Rattle.automaton.specs.Value.{Valid, destination, markSet, name}
-use Rattle.hoa_text.specs.Basics.{option, isSome, each}
+use Rattle.hoa_text.specs.Basics.{option, isSome}
 use Rattle.hoa_text.specs.Tokens.{tokens}
 use Rattle.hoa_text.specs.Grammar.{gives, refuses, then}
 use Rattle.hoa_text.specs.Body.{Table, letters, body}
 use Rattle.hoa_text.specs.Reading.{made, noEdge, whole, ended, reading, read}
 use Rattle.hoa_text.specs.Written.{stateLines, endLine, text}
-use Rattle.hoa_text.specs.Counting.{each-length, each-at, none-first}
 use Rattle.hoa_text.specs.Names.{name-length}
 use Rattle.hoa_text.specs.Made.{destination-made, marks-made, name-made}
 use Rattle.hoa_text.specs.Accepted.{accepted-valid}
 use Rattle.hoa_text.specs.WrittenBody.{headerOf, filled, before, body-read}
 use Rattle.hoa_text.specs.WrittenHeader.{header-read}
 use Rattle.hoa_text.specs.WrittenLength.{text-le}
+use Rattle.hoa_text.specs.First.{none-first}
 
 module _ (a : Automaton) (v : Valid a) where
   -- the table that is read back

@@ -1,29 +1,22 @@
 -- DEFINITIONS, 7 of 8: a text gives an automaton or is refused. Sentences in quotes are document 01's; the numbers are those of its table
 -- "What is turned down".
 use mathlib.Core.Bool.{cond}
-use mathlib.Core.List.{List, [], _∷_}
+use mathlib.Core.List.{List, []}
 use mathlib.Core.Option.{Option, none, some}
-use Prim.Native.Nat.{ℕ, _*_, _/_, _%_}
+use Prim.Native.Nat.{ℕ}
 use lib.Dec.{leb}
 use lib.ListN.{length, getD}
 use Rattle.automaton.specs.declared.Automaton.{Automaton}
 use Rattle.automaton.specs.declared.refusal.Refusal.{Refusal}
 use Rattle.automaton.specs.declared.refusal.Refusal.the-variants.{Form, Size, Body, NoEdge}
-use Rattle.hoa_text.specs.Basics.{option, isSome, each, first}
+use Rattle.automaton.specs.Value.{table, rows}
+use Rattle.hoa_text.specs.Basics.{option, isSome, first}
 use Rattle.hoa_text.specs.Tokens.{Stream, stands, over, broken, tokens}
 use Rattle.hoa_text.specs.Grammar.{Result, gives, refuses, then}
 use Rattle.hoa_text.specs.Header.{Header, header}
 use Rattle.hoa_text.specs.Body.{Table, letters, body}
 
 -- ---- the value
-
--- the numbers f 0, f 1, .., n of them
-abbrev pub table : ℕ → (ℕ → ℕ) → List ℕ
-table n f = each n (λ i. f i ∷ [])
-
--- n rows of 16
-abbrev pub rows : ℕ → (ℕ → ℕ → ℕ) → List ℕ
-rows n f = table (n * 16) (λ i. f (i / 16) (i % 16))
 
 -- slots that are not in use are 0
 abbrev pub made : Header → Table → Automaton

@@ -1,6 +1,5 @@
 -- A REPETITION NEEDS NO BOUND: where each turn takes a token, it is one turn and then the repetition.
 use mathlib.Core.Path.{_≡_, refl, ap, _∙_}
-use mathlib.Core.Bool.{Bool, true, false, cond}
 use Prim.Native.Nat.{ℕ, zero, suc, _<_}
 use native.Mathlib.Nat.{not-suc-le-zero}
 use native.Mathlib.Omega.{arith}
@@ -13,10 +12,6 @@ use Rattle.hoa_text.specs.Grammar.{Result, gives, refuses, Parsed, then,
 abbrev pub Every : {A : Type 0} → (A → Type 0) → Result A → Type 0
 Every P (gives a) = P a
 Every P (refuses r) = Unit {0}
-
-pub on-cond : {A : Type 0} (P : A → Type 0) (b : Bool) (x y : A) → (b ≡ true → P x) → (b ≡ false → P y) → P (cond b x y)
-on-cond P true x y h k = h refl
-on-cond P false x y h k = k refl
 
 pub every-then : {A B : Type 0} (P : A → Stream → Type 0) (Q : B → Type 0) (x : Parsed A) (k : A → Stream → Result B)
     → Every (λ y. P (y .0) (y .1)) x → ((a : A) (s : Stream) → P a s → Every Q (k a s)) → Every Q (then x k)

@@ -1,5 +1,5 @@
 -- Numbers, words, item names and ANAMEs at an offset: runs of bytes.
-use mathlib.Core.Path.{_≡_, refl, sym, ap, _∙_, subst}
+use mathlib.Core.Path.{_≡_, sym, ap, _∙_, subst}
 use mathlib.Core.Logic.{_≢_, _⊎_, inl, inr}
 use mathlib.Core.Bool.{Bool, true, false, cond, _||_}
 use mathlib.Core.List.{List, [], _∷_}
@@ -13,6 +13,7 @@ use lib.Seq.{slice, slice-cons, slice-empty, length-slice, drop-cons, getD-drop}
 use Rattle.meaning.specs.Tests.{and-left, or-cases}
 use Rattle.hoa_text.specs.Tokens.{between, blank, digit, opensWord, inWord, word, item, unread, token, run, numeral, identifier, alias, piece, stands, broken}
 use Rattle.hoa_text.specs.Offsets.{left, inside, pieceAt, left-token, left-stray}
+use Rattle.hoa_text.specs.Numbers.{digit-from}
 
 -- ---- runs
 
@@ -61,9 +62,6 @@ module _ {p : ℕ → Bool} (s : List ℕ) (i e : ℕ) (g : Run p s (i + 1) e) w
 not-blank : (b : ℕ) → 33 ≤ b → blank b ≡ false
 not-blank b h = rw (ne-eqb b 32 (omega arith), ne-eqb b 9 (omega arith), ne-eqb b 10 (omega arith), ne-eqb b 13 (omega arith))
 
-digit-from : (b : ℕ) → digit b ≡ true → 48 ≤ b
-digit-from b h = leb-true 48 b (and-left (leb 48 b) (leb b 57) h)
-
 pub digit-blank : (b : ℕ) → digit b ≡ true → blank b ≡ false
 digit-blank b h = not-blank b (omega (arith, digit-from b h))
 
@@ -75,7 +73,7 @@ left-number s i e h g =
 
 -- ---- words and item names
 
-word-from : (b : ℕ) → opensWord b ≡ true → 65 ≤ b
+pub word-from : (b : ℕ) → opensWord b ≡ true → 65 ≤ b
 word-from b h = go (or-cases (between "A" "Z" b) (between "a" "z" b || eqb b 95) h)
   where
     small : (between "a" "z" b ≡ true) ⊎ (eqb b 95 ≡ true) → 65 ≤ b

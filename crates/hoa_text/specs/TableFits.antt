@@ -8,7 +8,7 @@ use lib.Bits.{bitOr, or-lt}
 use lib.Dec.{ltb, eqb}
 use lib.ListN.{length}
 use lib.Pow.{pow-lt, pow-pos}
-use Rattle.meaning.specs.Tests.{and-left, and-right}
+use Rattle.meaning.specs.Tests.{and-left, and-right, on-cond}
 use Rattle.automaton.specs.declared.refusal.Refusal.{Refusal}
 use Rattle.automaton.specs.declared.refusal.Refusal.the-variants.{Form, Undeclared}
 use Rattle.hoa_text.specs.Basics.{option}
@@ -17,7 +17,7 @@ use Rattle.hoa_text.specs.Grammar.{numberOf, isItem, isSign, next, rest,
 use Rattle.hoa_text.specs.Labels.{Formula, holds, label}
 use Rattle.hoa_text.specs.Header.{Header}
 use Rattle.hoa_text.specs.Body.{Edge, Table, noStates, letters, stateGiven, stateItem, marks, marked, withEdge, secondEdge, marksGiven, destinationGiven, labelGiven, edge, bodyRead, body}
-use Rattle.hoa_text.specs.Repetition.{Every, every-then, every-after, every-onward, on-cond, Both, every-repeat}
+use Rattle.hoa_text.specs.Repetition.{Every, every-then, every-after, every-onward, Both, every-repeat}
 use Rattle.hoa_text.specs.HeaderFits.{Where}
 
 -- the transition from q by l

@@ -5,9 +5,10 @@ use Prim.Native.Nat.{ℕ, zero, suc, _+_, _/_, _%_}
 use Prim.Native.String.{String}
 use lib.Dec.{ltb, eqb}
 use Rattle.meaning.specs.BitSet.{has}
+use Rattle.meaning.specs.Counting.{each}
 use Rattle.automaton.specs.declared.Automaton.{Automaton}
 use Rattle.automaton.specs.Value.{letters, destination, markSet, name}
-use Rattle.hoa_text.specs.Basics.{bytes, each}
+use Rattle.hoa_text.specs.Basics.{bytes}
 
 -- a number below 100
 abbrev pub decimal : ℕ → List ℕ

@@ -1,6 +1,6 @@
 -- The body that is written of an automaton is read back as its table.
 use mathlib.Core.Path.{_≡_, refl, sym, ap, _∙_, subst}
-use mathlib.Core.Bool.{Bool, true, false, cond, _&&_, _||_, and-false}
+use mathlib.Core.Bool.{Bool, false, cond, _&&_, _||_, and-false}
 use mathlib.Core.List.{List, [], _∷_, _++_, append-assoc}
 use mathlib.Core.Option.{Option, none, some}
 use Prim.Native.Nat.{ℕ, zero, suc, _+_, _^_, _≤_, _<_}
@@ -9,11 +9,12 @@ use native.Mathlib.Omega.{arith}
 use borrow.Author.Tests.{lt-ltb, le-ltb, eq-eqb, ne-eqb}
 use lib.Dec.{ltb, eqb}
 use lib.ListN.{length}
+use Rattle.meaning.specs.Counting.{each, each-length}
 use Rattle.automaton.specs.declared.Automaton.{Automaton}
 use Rattle.automaton.specs.declared.refusal.Refusal.the-variants.{Undeclared, Body, SecondEdge}
 use Rattle.automaton.specs.Value.{Valid, destination, markSet, name}
 use Rattle.automaton.specs.Value as Value
-use Rattle.hoa_text.specs.Basics.{option, isSome, bytes, each}
+use Rattle.hoa_text.specs.Basics.{option, isSome, bytes}
 use Rattle.hoa_text.specs.Tokens.{over, lex}
 use Rattle.hoa_text.specs.Grammar.{quotedOf, isSign, next, rest, at, gives, refuses, then, again, repeat, onward}
 use Rattle.hoa_text.specs.Labels.{Formula, holds, label}
@@ -22,10 +23,10 @@ use Rattle.hoa_text.specs.Body.{Edge, Table, noStates, letters, withStat
 use Rattle.hoa_text.specs.Written.{decimal, marksOf, labelOf, edgeLine, stateLine, stateLines, endLine}
 use Rattle.hoa_text.specs.Repetition.{repeat-again, repeat-done}
 use Rattle.hoa_text.specs.BodyProgress.{body-shrinks}
-use Rattle.hoa_text.specs.Counting.{each-length, none-first}
 use Rattle.hoa_text.specs.WrittenTokens.{SomeOffset, Reads, first-byte, due-number}
 use Rattle.hoa_text.specs.WrittenLabels.{formulaOf, holds-formula, label-read}
 use Rattle.hoa_text.specs.WrittenMarks.{marks-front, marks-read}
+use Rattle.hoa_text.specs.First.{none-first}
 
 -- ---- what follows a line of the body: neither a brace nor a quoted text
 

@@ -10,17 +10,17 @@ use borrow.Author.Tests.{lt-ltb, le-leb, eq-eqb, ne-eqb}
 use lib.Dec.{ltb, leb}
 use lib.ListN.{length}
 use Rattle.meaning.specs.Tests.{and-true}
+use Rattle.meaning.specs.Counting.{each, each-length, each-at}
 use Rattle.automaton.specs.declared.Automaton.{Automaton}
-use Rattle.automaton.specs.declared.refusal.Refusal.the-variants.{Form, Size, Item, Undeclared}
+use Rattle.automaton.specs.declared.refusal.Refusal.the-variants.{Size, Undeclared}
 use Rattle.automaton.specs.Value.{Valid, name}
-use Rattle.hoa_text.specs.Basics.{option, bytes, each}
+use Rattle.hoa_text.specs.Basics.{option, bytes}
 use Rattle.hoa_text.specs.Tokens.{lex}
 use Rattle.hoa_text.specs.Grammar.{at, Result, gives, refuses, then, again, done, repeat, onward}
 use Rattle.hoa_text.specs.Header.{Items, Header, among, statesGiven, startGiven, nameGiven, naming, namesRead, namesGiven, noItems, opened, itemRead, header}
 use Rattle.hoa_text.specs.Written.{decimal, line, hoaLine, statesLine, startLine, quotedName, namesLine, namesPart, conditionOf, acceptanceLine, bodyLine}
 use Rattle.hoa_text.specs.Repetition.{repeat-again, repeat-done}
 use Rattle.hoa_text.specs.HeaderProgress.{item-shrinks}
-use Rattle.hoa_text.specs.Counting.{each-length, each-at}
 use Rattle.hoa_text.specs.Names.{not-among, name-length, name-printable}
 use Rattle.hoa_text.specs.WrittenTokens.{SomeOffset, Reads, NoDigit, first-byte, due-number, quoted-read}
 use Rattle.hoa_text.specs.WrittenBody.{headerOf}

@@ -12,14 +12,14 @@ use lib.Dec.{eqb}
 use lib.ListN.{length}
 use Rattle.meaning.specs.BitSet.{has, has-same}
 use Rattle.meaning.specs.Tests.{and-true, and-left, and-right}
-use Rattle.hoa_text.specs.Basics.{bytes, each}
+use Rattle.meaning.specs.Counting.{each, each-length}
+use Rattle.hoa_text.specs.Basics.{bytes}
 use Rattle.hoa_text.specs.Tokens.{number, Stream, stands, lex}
 use Rattle.hoa_text.specs.Grammar.{gives, Parsed, then, again, repeat}
 use Rattle.hoa_text.specs.Labels.{Formula, proposition, top, negation, conjunction, disjunction, holds, operation, conjunctions, unary, negated, deepest, label}
 use Rattle.hoa_text.specs.Written.{decimal, followed, separated, literalOf, labelOf}
 use Rattle.hoa_text.specs.Repetition.{repeat-again, repeat-done}
 use Rattle.hoa_text.specs.LabelProgress.{and-shrinks, or-shrinks}
-use Rattle.hoa_text.specs.Counting.{each-length}
 use Rattle.hoa_text.specs.WrittenTokens.{SomeOffset, Reads, NoDigit, first-byte, number-read}
 
 -- ---- texts with a text between them

@@ -7,12 +7,13 @@ use Prim.Native.String.{String}
 use native.Mathlib.Omega.{arith}
 use lib.ListN.{length, length-append}
 use lib.Dec.{ltb, eqb}
-use lib.Pow.{pow-mono}
 use borrow.Author.Tests.{lt-ltb}
 use Rattle.meaning.specs.BitSet.{has}
+use Rattle.meaning.specs.Counting.{each}
 use Rattle.automaton.specs.declared.Automaton.{Automaton}
 use Rattle.automaton.specs.Value.{Valid, letters, destination, markSet, name}
-use Rattle.hoa_text.specs.Basics.{bytes, each}
+use Rattle.automaton.specs.Powers.{letters-le}
+use Rattle.hoa_text.specs.Basics.{bytes}
 use Rattle.hoa_text.specs.Written.{decimal, followed, separated, line, statesLine, startLine, quotedName, namesLine, namesPart, infOf, conditionOf, acceptanceLine, bodyLine, stateLine, literalOf, labelOf, members, marksOf, edgeLine, stateLines, endLine, text}
 use Rattle.hoa_text.specs.Names.{name-length}
 
@@ -113,7 +114,7 @@ module _ (a : Automaton) (v : Valid a) where
 
   state-le : (q : ℕ) → length (stateLines a q) ≤ 474
   state-le q =
-      let few : letters a ≤ 16 = pow-mono {j = 4} (v .propositions-le) in
+      let few : letters a ≤ 16 = letters-le v in
       let first : length (stateLine q) ≤ 10 = line-le (bytes "State: " ++ decimal q) 9 (omega (arith, decimal-le q)) in
       omega (arith, length-append (stateLine q) (each (letters a) (edgeLine a q)), each-le (letters a) 29 (edgeLine a q) (λ l g. edge-le q l))
 

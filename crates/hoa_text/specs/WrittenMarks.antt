@@ -11,7 +11,7 @@ use borrow.Author.Tests.{lt-ltb, eq-eqb, ne-eqb}
 use lib.Bits.{bitOr, or-shifted-r}
 use lib.Dec.{eqb}
 use lib.ListN.{length, length-append}
-use lib.Pow.{pow-pos, mod-pow-add}
+use lib.Pow.{pow-pos}
 use Rattle.meaning.specs.BitSet.{low, has, digit as bit}
 use Rattle.automaton.specs.declared.refusal.Refusal.the-variants.{Undeclared}
 use Rattle.hoa_text.specs.Basics.{bytes}

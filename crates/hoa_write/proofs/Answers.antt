@@ -1,17 +1,17 @@
 -- The writer's answer, case by case, and the text from its parts.
 use mathlib.Core.Path.{_≡_, refl, sym, ap, _∙_}
 use mathlib.Core.Logic.{_↔_}
-use mathlib.Core.Bool.{Bool, true, false, not, true≢false}
+use mathlib.Core.Bool.{Bool, true, not, true≢false}
 use mathlib.Core.List.{List, _++_, append-assoc}
 use Prim.Native.Nat.{ℕ, _+_, _≤_, _<_}
 use native.Mathlib.Omega.{arith}
-use borrow.Author.Tests.{not-true, not-false}
+use borrow.Author.Tests.{not-true}
 use lib.ListN.{length, drop, length-append}
+use Rattle.meaning.specs.Counting.{each}
 use Rattle.automaton.specs.declared.Automaton.{Automaton}
 use Rattle.automaton.specs.declared.refusal.Refusal.the-variants.{Outside, Short}
 use Rattle.automaton.specs.Value.{Valid}
 use Rattle.decimal.specs.Wrote.{Wrote}
-use Rattle.hoa_text.specs.Basics.{each}
 use Rattle.hoa_text.specs.Written.{text, hoaLine, statesLine, startLine, namesPart, acceptanceLine, bodyLine, stateLines, endLine}
 use Rattle.hoa_write.specs.declared.Written.the-variants.{Text, Refused}
 use Rattle.hoa_write.specs.Answer.{Answered}

@@ -9,12 +9,12 @@ use borrow.Author.Tests.{not-true, not-false, eq-eqb, ne-eqb}
 use lib.Dec.{ltb}
 use lib.ListN.{length, length-append}
 use Rattle.meaning.specs.BitSet.{has}
+use Rattle.meaning.specs.Counting.{each}
 use Rattle.automaton.specs.declared.Automaton.{Automaton}
 use Rattle.automaton.specs.Value.{destination, markSet}
 use Rattle.decimal.specs.Decimal.{decimal as decimalText}
 use Rattle.decimal.specs.Wrote.{Wrote, WroteIfRoom}
 use Rattle.decimal.specs.Writing.{wrote-none}
-use Rattle.hoa_text.specs.Basics.{each}
 use Rattle.hoa_text.specs.Written.{decimal, separated, line, conditionOf, labelOf, members, marksOf, edgeLine}
 use Rattle.hoa_write.specs.Numbers.{decimal-text}
 use Rattle.hoa_write.specs.Pieces.{byteIf, infPiece, literalPiece, markPiece, label-pieces, condition-pieces, mark-pieces}

@@ -8,9 +8,9 @@ use native.Mathlib.Decide.{ℕ-discrete}
 use native.Mathlib.Omega.{arith}
 use lib.ListN.{length, take, drop, set, getD, length-append, length-take, length-drop}
 use lib.Seq.{take-suc, take-length}
+use Rattle.meaning.specs.Counting.{each}
 use Rattle.decimal.specs.Wrote.{Wrote}
 use Rattle.decimal.specs.Writing.{wrote-none, wrote-one, wrote-then, wrote-part, wrote-length}
-use Rattle.hoa_text.specs.Basics.{each}
 
 -- ---- a word, byte by byte
 

@@ -10,8 +10,7 @@ use lib.Dec.{ltb}
 use lib.ListN.{length, length-append}
 use lib.Pow.{pow-pos}
 use Rattle.meaning.specs.BitSet.{has, digit, low}
-use Rattle.hoa_text.specs.Basics.{each}
-use Rattle.hoa_text.specs.Counting.{each-length}
+use Rattle.meaning.specs.Counting.{each, each-length}
 use Rattle.hoa_text.specs.Written.{decimal, separated, infOf, conditionOf, literalOf, labelOf, members}
 use Rattle.hoa_text.specs.WrittenLabels.{separated-more}
 

@@ -10,9 +10,10 @@ ghost use mathlib.Core.List.{_++_};
 ghost use Prim.Native.Nat.{_+_, _%_, _^_, _≤_, _<_};
 ghost use lib.ListN.{length};
 ghost use Rattle.meaning.specs.BitSet.{has};
+ghost use Rattle.meaning.specs.Counting.{each};
 ghost use Rattle.automaton.specs.Value.{Valid, letters};
 ghost use Rattle.decimal.specs.Wrote.{Wrote};
-ghost use Rattle.hoa_text.specs.Basics.{bytes, each};
+ghost use Rattle.hoa_text.specs.Basics.{bytes};
 ghost use Rattle.hoa_text.specs.Written.{stateLines, edgeLine, labelOf, marksOf};
 ghost use Rattle.hoa_write.specs.Pieces.{literalPiece, markPiece};
 

@@ -4,9 +4,9 @@ use automaton::refusal::Refusal;
 ghost use Prim.Native.Nat.{_≤_};
 ghost use mathlib.Core.List.{_++_};
 ghost use lib.ListN.{length};
+ghost use Rattle.meaning.specs.Counting.{each};
 ghost use Rattle.automaton.specs.Value.{Valid};
 ghost use Rattle.decimal.specs.Wrote.{Wrote};
-ghost use Rattle.hoa_text.specs.Basics.{each};
 ghost use Rattle.hoa_text.specs.Written.{text, hoaLine, statesLine, startLine, namesPart, acceptanceLine, bodyLine, stateLines, endLine};
 ghost use Rattle.hoa_write.specs.Answer.{Answered};
 

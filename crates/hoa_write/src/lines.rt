@@ -8,9 +8,9 @@ use automaton::Automaton;
 ghost use mathlib.Core.List.{_∷_, _++_};
 ghost use Prim.Native.Nat.{_+_, _≤_, _<_};
 ghost use lib.ListN.{length};
+ghost use Rattle.meaning.specs.Counting.{each};
 ghost use Rattle.automaton.specs.Value.{Valid};
 ghost use Rattle.decimal.specs.Wrote.{Wrote};
-ghost use Rattle.hoa_text.specs.Basics.{each};
 ghost use Rattle.hoa_text.specs.Written.{decimal, line, hoaLine, namesPart, namesLine, quotedName, acceptanceLine, conditionOf, infOf};
 ghost use Rattle.hoa_write.specs.Pieces.{infPiece};
 

@@ -6,7 +6,7 @@ use mathlib.Core.List.{List, [], _∷_}
 use Prim.Native.Nat.{ℕ, zero, suc, _+_, _-_, _≤_, _<_}
 use Prim.Native.String.{String}
 use native.Mathlib.Omega.{arith}
-use borrow.Author.Tests.{lt-ltb, le-ltb, eq-eqb, ne-eqb}
+use borrow.Author.Tests.{lt-ltb, le-ltb, ne-eqb}
 use lib.Bits.{bitXor}
 use lib.ListN.{length, getD}
 use lib.Seq.{slice}
@@ -14,9 +14,9 @@ use denote.Enum.Declared.{tagOf, declared}
 use types.Run.{OneOf, miss}
 use Rattle.automaton.specs.declared.refusal.Refusal.{Refusal}
 use Rattle.automaton.specs.declared.refusal.Refusal.the-variants.{Form, Size, Undeclared}
-use Rattle.hoa_text.specs.Basics.{option, isSome, bytes, same}
+use Rattle.hoa_text.specs.Basics.{isSome, bytes, same}
 use Rattle.hoa_text.specs.Tokens.{blank, digit, sign, token, piece, Stream, stands}
-use Rattle.hoa_text.specs.Grammar.{numberOf, signOf, isWord, isSign, next, rest, at, gives, refuses, Parsed, then, due, again, repeat}
+use Rattle.hoa_text.specs.Grammar.{numberOf, isWord, next, at, gives, refuses, Parsed, then, again, repeat}
 use Rattle.hoa_text.specs.Labels.{Formula, propositionGiven, proposition, top, bottom, negation, atom, operation, operands, disjunctions, negated, closed, unary}
 use Rattle.hoa_text.specs.Repetition.{Shrinks, repeat-again, repeat-done, repeat-refuses}
 use Rattle.hoa_text.specs.Offsets.{left, inside}
@@ -27,28 +27,14 @@ use Rattle.scan.specs.declared.Token.{Token}
 use Rattle.scan.specs.declared.Token.the-variants.{Word, Item, Number, Quoted, Sign, Body, End, Abort, Unread, Over, Broken}
 use Rattle.scan.specs.Answers.{stream, Reads, Skipped, isSignOf, Behind}
 use Rattle.scan.proofs.Token.{enum}
+use Rattle.scan.specs.Behind.{absent, present, behind-it, its-offset}
+use Rattle.scan.proofs.Due.{other-than-number, number-missing, number-due}
 use Rattle.labels.specs.declared.LabelRead.{LabelRead}
 use Rattle.labels.specs.declared.LabelRead.the-variants.{Letters, Refused}
 use Rattle.labels.proofs.LetterSets.{all-letters, no-letters, letters-not}
 use Rattle.labels.specs.Answers.{Satisfy, Read, Answers, Closes, Constant, Spelled}
 
 -- ---- one sign
-
-module _ (w : String) (b : ℕ) (spelled : bytes w ≡ b ∷ []) (s : List ℕ) (i e : ℕ) (h : Behind s i b e) where
-  tested : (u : Stream) → next (isSign w) u ≡ next (isSignOf b) u
-  tested u = ap (λ v. next (λ t. option (signOf t) false (same v)) u) spelled
-
-  pub absent : e ≡ i → next (isSign w) (left s i) ≡ false
-  absent q = tested (left s i) ∙ h .absent q
-
-  pub present : e ≢ i → next (isSign w) (left s i) ≡ true
-  present q = tested (left s i) ∙ ap (next (isSignOf b)) (h .present q) ∙ rw (eq-eqb b b refl)
-
-  pub behind-it : e ≢ i → rest (left s i) ≡ left s e
-  behind-it q = ap rest (h .present q)
-
-  pub its-offset : e ≢ i → at (left s i) ≡ e - 1
-  its-offset q = ap at (h .present q)
 
 -- the first byte is that sign
 sign-first : (b : ℕ) → ((r : List ℕ) → piece b r ≡ token (sign (b ∷ [])) 0) → b ≢ 0 → (s : List ℕ) (i o : ℕ) → Skipped s i o → getD s o 0 ≡ b → Behind s i b (o + 1)
@@ -196,9 +182,6 @@ module _ (k : ℕ) (s : List ℕ) (i n : ℕ) where
 
 -- ---- the first byte, at o, chooses
 
-pub byte-inside : (s : List ℕ) (o b : ℕ) → getD s o 0 ≡ suc b → o < length s
-byte-inside s o b e = inside s o (λ z. absurd (omega (arith, e, z)))
-
 module _ (k : ℕ) (s : List ℕ) (i o d : ℕ) (h : Skipped s i o) where
   later : o + 1 ≢ i
   later q = absurd (omega (arith, h .from))
@@ -315,25 +298,11 @@ no-digit-no-number s i b d =
       signs = λ v. refl;
     })
 
-pub no-number : (k : ℕ) (s : List ℕ) (i o : ℕ) (t : Token) → digit (getD s i 0) ≡ true → Reads s i t → OneOf (0 ∷ 1 ∷ 3 ∷ 4 ∷ 5 ∷ 6 ∷ 7 ∷ 8 ∷ 9 ∷ 10 ∷ []) (tagOf (declared enum) t)
+pub no-number : (k : ℕ) (s : List ℕ) (i o : ℕ) (t : Token) → digit (getD s i 0) ≡ true → Reads s i t → OneOf other-than-number (tagOf (declared enum) t)
     → o ≡ at (left s i) → atom k (left s i) ≡ refuses (Form o)
 no-number k s i o t d h g e =
     rw (digit-no-word s i d "t", digit-no-word s i d "f")
-    (ap (λ u. then (due numberOf u) (propositionGiven k (at u))) (h .is) ∙ go t g ∙ ap (λ o. refuses (Form o)) (sym (e ∙ ap at (h .is))))
-  where
-    go : (t : Token) → OneOf (0 ∷ 1 ∷ 3 ∷ 4 ∷ 5 ∷ 6 ∷ 7 ∷ 8 ∷ 9 ∷ 10 ∷ []) (tagOf (declared enum) t)
-        → then (due numberOf (stream s t)) (propositionGiven k (at (stream s t))) ≡ refuses (Form (at (stream s t)))
-    go (Word o e) g = refl
-    go (Item o e) g = refl
-    go (Number o v e) g = absurd (miss (0 ∷ 1 ∷ 3 ∷ 4 ∷ 5 ∷ 6 ∷ 7 ∷ 8 ∷ 9 ∷ 10 ∷ []) 2 tt g)
-    go (Quoted o e) g = refl
-    go (Sign o b) g = refl
-    go (Body o) g = refl
-    go (End o) g = refl
-    go (Abort o) g = refl
-    go (Unread o e) g = refl
-    go (Over o) g = refl
-    go (Broken o r) g = refl
+    (ap (λ x. then x (propositionGiven k (at (left s i)))) (number-due (left s i) o (number-missing s i t h g) e))
 
 pub no-word : (s : List ℕ) (i o : ℕ) (t : Token) → blank (getD s i 0) ≡ false → digit (getD s i 0) ≡ false → Reads s i t
     → OneOf (1 ∷ 2 ∷ 3 ∷ 4 ∷ 5 ∷ 6 ∷ 7 ∷ 8 ∷ 9 ∷ 10 ∷ []) (tagOf (declared enum) t) → o ≡ at (left s i) → Constant s i (Refused (Form o))

@@ -1,33 +1,20 @@
 -- Laws of sets of letters: which letters satisfy a formula, bit by bit.
 use mathlib.Core.Path.{_≡_, refl, sym, ap, _∙_}
 use mathlib.Core.Bool.{true, not, _&&_, _||_}
-use Prim.Native.Nat.{ℕ, zero, suc, _/_, _%_, _^_, _≤_, _<_}
-use native.Mathlib.Nat.{mod-lt, zero-lt-suc, div-eq-of-lt}
+use Prim.Native.Nat.{ℕ, _/_, _%_, _^_, _≤_, _<_}
+use native.Mathlib.Nat.{div-eq-of-lt}
 use native.Mathlib.Omega.{arith}
 use borrow.Author.Tests.{eqb-true}
-use lib.Bits.{bitAnd, bitOr, bitXor, xor-shr, xor-mod}
+use lib.Bits.{bitAnd, bitOr, bitXor}
 use lib.Dec.{eqb}
 use lib.Pow.{pow-mono}
 use Rattle.meaning.specs.Tests.{all, all-at}
-use Rattle.meaning.specs.BitSet.{digit, has, has-or, has-and, has-zero}
+use Rattle.meaning.specs.BitSet.{digit, has, has-or, has-and, has-zero, has-all, has-not}
 use Rattle.hoa_text.specs.Labels.{Formula, proposition, top, bottom, negation, conjunction, disjunction, holds}
 use Rattle.labels.specs.Answers.{Satisfy}
 
-digit-not : (a : ℕ) → a < 2 → digit (bitXor a 1) ≡ not (digit a)
-digit-not zero h = refl
-digit-not (suc zero) h = refl
-digit-not (suc (suc a)) h = absurd (omega arith)
-
-all-have : (i : ℕ) → i < 16 → 65535 / 2 ^ i % 2 ≡ 1
-all-have i h = eqb-true (65535 / 2 ^ i % 2) 1 (all-at 16 (λ i. eqb (65535 / 2 ^ i % 2) 1) refl i h)
-
-pub has-not : (a i : ℕ) → i < 16 → has (bitXor a 65535) i ≡ not (has a i)
-has-not a i h =
-    ap (λ n. digit (n % 2)) (xor-shr a 65535 i) ∙ ap digit (xor-mod (a / 2 ^ i) (65535 / 2 ^ i) 1)
-    ∙ ap (λ n. digit (bitXor (a / 2 ^ i % 2) n)) (all-have i h) ∙ digit-not (a / 2 ^ i % 2) (mod-lt (a / 2 ^ i) (zero-lt-suc 1))
-
 pub all-letters : Satisfy 65535 top
-all-letters l h = ap digit (all-have l h)
+all-letters l h = has-all l h
 
 pub no-letters : Satisfy 0 bottom
 no-letters l h = has-zero l

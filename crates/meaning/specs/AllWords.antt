@@ -11,7 +11,7 @@ use Rattle.meaning.specs.Pigeonhole.{Twice, pigeonhole}
 use Rattle.meaning.specs.Tests.{truth, same-truth}
 use Rattle.meaning.specs.Walk.{run}
 use Rattle.meaning.specs.ShortWalk.{Numbered}
-use Rattle.meaning.specs.Automata.{Aut, Word, Inf, state, union, carries}
+use Rattle.meaning.specs.Automata.{Aut, Word, state, union, carries}
 use Rattle.meaning.specs.Agreement.{Agree, AgreeEverywhere, Comparable, Over, lasso}
 use Rattle.meaning.specs.LassoWord.{Reads, lasso-over}
 use Rattle.meaning.specs.Run.{after, seen, state-run, meets-at, at-meets}

@@ -1,6 +1,6 @@
 -- THE CYCLE LEMMA. Two automata agree on all lasso words if and only if they agree on all closed walks of their product that are reached.
 use mathlib.Core.Path.{_≡_, refl, sym, ap, _∙_}
-use mathlib.Core.Logic.{_≢_, _⊎_, inl, inr, _↔_}
+use mathlib.Core.Logic.{_≢_, inl, inr, _↔_}
 use mathlib.Core.List.{List, [], _∷_, _++_, append-assoc, cons≢nil}
 use mathlib.Core.Bool.{Bool, true, false, false≢true}
 use Prim.Native.Nat.{ℕ, suc, _+_, _-_, _*_, _<_}
@@ -9,7 +9,7 @@ use Rattle.meaning.specs.Pigeonhole.{Twice, pigeonhole}
 use Rattle.meaning.specs.Tests.{same-truth}
 use Rattle.meaning.specs.Walk.{run, run-append}
 use Rattle.meaning.specs.ShortWalk.{Numbered, ok-run}
-use Rattle.meaning.specs.Automata.{Aut, WellFormed, Word, Inf, Accepts}
+use Rattle.meaning.specs.Automata.{Aut, Word, Inf, Accepts}
 use Rattle.meaning.specs.Agreement.{Agree, AgreeOn, Comparable, Over, lasso}
 use Rattle.meaning.specs.LassoWord.{IsLasso, lasso-reads, lasso-over, times, times-add, unroll, over-append, over-times}
 use Rattle.meaning.specs.ClosedLoop.{verdict, Closed, CyclesAgree, accepts-verdict, lasso-verdict, loop-inf}

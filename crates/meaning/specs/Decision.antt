@@ -1,6 +1,6 @@
 -- AGREEMENT IS DECIDED: two automata agree, or a lasso word within known lengths distinguishes them.
 use mathlib.Core.Path.{_≡_, refl, sym, _∙_}
-use mathlib.Core.Logic.{_≢_, _⊎_, inl, inr}
+use mathlib.Core.Logic.{_≢_, _⊎_, inl, inr, ⊎-elim}
 use mathlib.Core.List.{List, [], _∷_, cons≢nil}
 use mathlib.Core.Bool.{Bool, true, false, true≢false}
 use Prim.Native.Nat.{ℕ, suc, _+_, _*_, _≤_, _<_, max}
@@ -183,6 +183,12 @@ distinguished {A} {B} {x} {y} t a = go (a x y (t .over-x) (t .over-y) (t .some))
     go (inl b) (inr d) = d .0 (b .0)
     go (inr b) (inl d) = b .0 (d .0)
     go (inr b) (inr d) = b .1 (d .1)
+
+-- an automaton agrees with itself
+pub agree-self : {A : Aut} → WellFormed A → Agree A A
+agree-self F =
+    ⊎-elim (λ a. a) (λ w. absurd (⊎-elim (λ t. t .1 (t .0)) (λ t. t .0 (t .1)) (w .apart .apart)))
+    (witness-any (record { formed-A = F; formed-B = F; same-letters = refl }))
 
 pub decide-agree : {A B : Aut} → Comparable A B → Dec (Agree A B)
 decide-agree {A} {B} C = go (witness-any C)

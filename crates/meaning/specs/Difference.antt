@@ -14,7 +14,7 @@ use Rattle.meaning.specs.Run.{after, seen}
 use Rattle.meaning.specs.ClosedLoop.{verdict, Closed}
 use Rattle.meaning.specs.Product.{Node, both, run-both, meets-fst, meets-snd, numbered, start, start-ok, after-ok, over-walk, walk-over}
 use Rattle.meaning.specs.Tour.{tour}
-use Rattle.meaning.specs.SameMarks.{SameSeen, same-seen}
+use Rattle.meaning.specs.SameMarks.{same-seen}
 
 -- A accepts the word that reads x and goes round y, and B does not
 pub record Differ (A B : Aut) (x y : List ℕ) : Type 0 where

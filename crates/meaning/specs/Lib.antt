@@ -1,6 +1,7 @@
 pub mod Automata
 pub mod Agreement
 pub mod Tests
+pub mod Counting
 pub mod Pigeonhole
 pub mod Walk
 pub mod ShortWalk

@@ -2,9 +2,8 @@
 use mathlib.Core.Path.{_≡_, refl, sym, ap, _∙_}
 use mathlib.Core.List.{List, [], _∷_}
 use mathlib.Core.Bool.{Bool}
-use Prim.Native.Nat.{ℕ, zero, suc, _+_, _*_, _/_, _%_, _<_}
-use native.Mathlib.Nat.{suc-mul, mul-le-mul-right, mul-add-mod-self-right, mod-eq-of-lt, mul-add-div-right, div-eq-of-lt, add-zero}
-use native.Mathlib.Omega.{arith}
+use Prim.Native.Nat.{ℕ, _+_, _*_, _/_, _%_, _<_}
+use lib.Arith.{digits-lt, digits-div, digits-mod}
 use Rattle.meaning.specs.Walk.{run, Walk, meets}
 use Rattle.meaning.specs.ShortWalk.{Numbered}
 use Rattle.meaning.specs.Automata.{Aut, Word, state}
@@ -29,16 +28,7 @@ pub meets-snd : (A B : Aut) (m : ℕ → ℕ → Bool) (n : Node) (w : List ℕ)
 meets-snd A B m n [] = refl
 meets-snd A B m n (l ∷ w) = rw (meets-snd A B m (both A B n l) w)
 
--- a pair of numbers below c and d as one number below c * d
-code-lt : (c d a b : ℕ) → a < c → b < d → a * d + b < c * d
-code-lt c d a b ha hb = omega (arith, suc-mul a d, mul-le-mul-right d ha)
-
-code-snd : (d a b : ℕ) → b < d → (a * d + b) % d ≡ b
-code-snd d a b h = mul-add-mod-self-right a d b ∙ mod-eq-of-lt h
-
-code-fst : (d a b : ℕ) → b < d → (a * d + b) / d ≡ a
-code-fst d a b h = let pos : 0 < d = omega arith in mul-add-div-right pos a b ∙ ap (λ k. a + k) (div-eq-of-lt h) ∙ add-zero a
-
+-- a pair of states is numbered as two digits
 module _ {A B : Aut} (C : Comparable A B) where
   pub numbered : (E : Node → ℕ → Type 0) → ((n : Node) (l : ℕ) → E n l → l < A .letters) → Numbered (both A B) E (A .states * B .states)
   numbered E letter = record {
@@ -48,10 +38,10 @@ module _ {A B : Aut} (C : Comparable A B) where
       C .formed-A .step-lt (n .0) l (o .0) (letter n l e),
       C .formed-B .step-lt (n .1) l (o .1) (rw (C .same-letters) at (letter n l e)),
     );
-    small = λ n o. code-lt (A .states) (B .states) (n .0) (n .1) (o .0) (o .1);
+    small = λ n o. digits-lt (o .0) (o .1);
     same = λ m n om on e. λ i. (
-      (sym (code-fst (B .states) (m .0) (m .1) (om .1)) ∙ ap (λ k. k / B .states) e ∙ code-fst (B .states) (n .0) (n .1) (on .1)) i,
-      (sym (code-snd (B .states) (m .0) (m .1) (om .1)) ∙ ap (λ k. k % B .states) e ∙ code-snd (B .states) (n .0) (n .1) (on .1)) i,
+      (sym (digits-div (m .0) (om .1)) ∙ ap (λ k. k / B .states) e ∙ digits-div (n .0) (on .1)) i,
+      (sym (digits-mod (m .0) (om .1)) ∙ ap (λ k. k % B .states) e ∙ digits-mod (n .0) (on .1)) i,
     );
   }
 

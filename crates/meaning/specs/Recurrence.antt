@@ -1,13 +1,13 @@
 -- The union over Inf(ρ) is the set of the acceptance sets that are met infinitely often, document 01's words.
 use mathlib.Core.Path.{_≡_, refl, sym, ap₂, _∙_, subst}
 use mathlib.Core.Logic.{_⊎_, inl, inr, _↔_}
-use mathlib.Core.Bool.{Bool, true, false, _&&_, true≢false, false≢true}
+use mathlib.Core.Bool.{Bool, true, false, _&&_, true≢false}
 use Prim.Native.Nat.{ℕ, zero, suc, _≤_, _<_, max}
-use native.Mathlib.Nat.{not-suc-le-zero, le-refl}
+use native.Mathlib.Nat.{not-suc-le-zero}
 use native.Mathlib.Decide.{ℕ-discrete}
 use native.Mathlib.Omega.{arith}
 use Rattle.meaning.specs.Tests.{and-true, and-left, and-right, any-at, any-find, all-at, all-of, truth, same-truth}
-use Rattle.meaning.specs.Automata.{Aut, WellFormed, EverySet, Word, Inf, Accepts, Takes, state, union, carries, MetInfinitelyOften, MetFinitelyOften}
+use Rattle.meaning.specs.Automata.{Aut, WellFormed, EverySet, Word, Inf, Accepts, Takes, state, union, MetInfinitelyOften, MetFinitelyOften}
 use Rattle.meaning.specs.Run.{state-lt}
 
 -- S is the set of the sets that the run on w meets infinitely often

@@ -13,10 +13,10 @@ use Rattle.meaning.specs.Tests.{or-left, or-right, or-cases, same-truth}
 use Rattle.meaning.specs.Walk.{run, Walk, meets, walk-map}
 use Rattle.meaning.specs.ShortWalk.{Numbered, restrict, restrict-ok}
 use Rattle.meaning.specs.Tour.{Tour, tour}
-use Rattle.meaning.specs.Automata.{Aut, WellFormed}
+use Rattle.meaning.specs.Automata.{Aut}
 use Rattle.meaning.specs.Agreement.{Comparable, Over}
 use Rattle.meaning.specs.Run.{after, seen}
-use Rattle.meaning.specs.ClosedLoop.{verdict, Closed}
+use Rattle.meaning.specs.ClosedLoop.{Closed}
 use Rattle.meaning.specs.Product.{Node, both, run-both, meets-fst, meets-snd, numbered, after-ok, over-walk, walk-over}
 
 -- ---- a closed walk in any graph, with marks

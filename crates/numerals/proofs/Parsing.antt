@@ -6,11 +6,10 @@ use Prim.Native.Nat.{ℕ, _+_, _-_, _*_, _^_, _≤_, _<_}
 use native.Mathlib.Decide.{decLt}
 use native.Mathlib.Numerals.{add-one}
 use native.Mathlib.Omega.{arith}
-use borrow.Author.Tests.{lt-ltb, le-ltb, le-leb, lt-leb, leb-true, ltb-true, ltb-false}
+use borrow.Author.Tests.{lt-ltb, le-ltb, le-leb, lt-leb, ltb-true, ltb-false}
 use lib.Dec.{ltb, leb, lit<}
 use lib.ListN.{length, getD, drop, drop-of-length-le}
 use lib.Seq.{drop-cons}
-use Rattle.meaning.specs.Tests.{and-left}
 use Rattle.hoa_text.specs.Tokens.{digit, decimalValue}
 use Rattle.numerals.specs.declared.Number.{Number}
 use Rattle.numerals.specs.declared.Number.the-variants.{Of, None}
@@ -83,9 +82,6 @@ module _ (w : List ℕ) where
   pub whole : {v i : ℕ} → length w ≤ i → Begun v i → Of v ≡ numberOf w
   whole {v} {i} h p =
       sym (p .is ∙ ap (rest v) (drop-of-length-le w {i = i} h) ∙ ap (λ t. cond t (Of v) None) (lt-ltb v (2 ^ 64) (p .small)))
-
-pub digit-from : (b : ℕ) → digit b ≡ true → 48 ≤ b
-digit-from b e = leb-true 48 b (and-left (leb 48 b) (leb b 57) e)
 
 -- ---- whether one more digit fits
 

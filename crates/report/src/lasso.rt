@@ -4,7 +4,7 @@ use compare::Comparison;
 use hoa_write::pieces::byte;
 use hoa_write::pieces::word;
 ghost use mathlib.Core.Path.{_≡_};
-ghost use mathlib.Core.List.{[], _∷_, _++_};
+ghost use mathlib.Core.List.{_++_};
 ghost use Prim.Native.Nat.{_+_, _*_, _≤_};
 ghost use lib.ListN.{length, take};
 ghost use Rattle.decimal.specs.Wrote.{Wrote};

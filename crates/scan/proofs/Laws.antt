@@ -1,30 +1,30 @@
 -- Laws of the tokens at an offset.
 use mathlib.Core.Path.{_≡_, refl, sym, ap, _∙_, subst}
 use mathlib.Core.Logic.{_≢_, ⊎-elim}
-use mathlib.Core.Bool.{Bool, true, false, not, _&&_, _||_, true≢false, false≢true}
+use mathlib.Core.Bool.{Bool, true, false, not, _&&_, _||_, true≢false, false≢true, and-false}
 use mathlib.Core.List.{List, [], _∷_}
-use Prim.Native.Nat.{ℕ, suc, _+_, _-_, _*_, _≤_, _<_, min}
+use Prim.Native.Nat.{ℕ, _+_, _-_, _*_, _≤_, _<_, min}
 use native.Mathlib.Decide.{decLt}
 use native.Mathlib.Numerals.{add-one}
 use native.Mathlib.Omega.{arith}
-use borrow.Author.Tests.{ne-eqb, eq-eqb, eqb-true, leb-true, le-leb, lt-leb}
-use lib.Dec.{leb, eqb}
+use borrow.Author.Tests.{ne-eqb, eq-eqb, eqb-true}
+use lib.Dec.{eqb}
 use lib.ListN.{length, getD, drop, length-drop, drop-of-length-le, List·getD-eq-default}
 use lib.Seq.{slice, slice-empty, drop-cons}
-use Rattle.meaning.specs.Tests.{and-left, and-right, or-cases}
+use denote.Enum.Declared.{tagOf, declared}
+use types.Run.{OneOf, miss}
+use Rattle.meaning.specs.Tests.{and-right, or-cases}
 use Rattle.hoa_text.specs.Basics.{bytes, begins}
 use Rattle.hoa_text.specs.Tokens.{blank, digit, opensWord, inWord, sign, token, leadingZero, value, piece, stands}
+use Rattle.hoa_text.specs.Grammar.{next, at}
 use Rattle.hoa_text.specs.Offsets.{left, inside, left-over, left-blank}
-use Rattle.hoa_text.specs.Numbers.{value-next, leads-zero, one-digit}
-use Rattle.hoa_text.specs.RunOffsets.{Run, left-number, left-word, left-item, left-alias, left-at}
+use Rattle.hoa_text.specs.Numbers.{value-next, leads-zero, one-digit, digit-from}
+use Rattle.hoa_text.specs.RunOffsets.{Run, word-from, left-number, left-word, left-item, left-alias, left-at}
 use Rattle.hoa_text.specs.QuotedOffsets.{InQuotes, quotes-carried, quotes-more, left-quoted, left-unquoted}
 use Rattle.hoa_text.specs.SignOffsets.{left-mark, left-body, left-end, left-abort, left-dash, opensSign, OpensNone, left-none}
 use Rattle.scan.specs.declared.Token.{Token}
 use Rattle.scan.specs.declared.Token.the-variants.{Word, Item, Number, Quoted, Sign, Body, End, Abort, Unread, Over, Broken}
 use Rattle.scan.specs.Answers.{stream, Within, Ends, Lies, Reads, Skipped, Digits, Other, isSignOf, Behind}
-use Rattle.hoa_text.specs.Grammar.{next, at}
-use denote.Enum.Declared.{tagOf, declared}
-use types.Run.{OneOf, miss}
 use Rattle.scan.proofs.Token.{enum}
 
 pub past : (s : List ℕ) (i : ℕ) → length s ≤ i → 0 ≡ getD s i 0
@@ -73,9 +73,6 @@ module _ {p : ℕ → Bool} {s : List ℕ} {i : ℕ} where
   scanned-end {e} h l q = scanned-run h (ap p (sym (past s e l)) ∙ q)
 
 -- ---- numbers
-
-pub digit-from : (b : ℕ) → digit b ≡ true → 48 ≤ b
-digit-from b h = leb-true 48 b (and-left (leb 48 b) (leb b 57) h)
 
 pub digit-inside : (s : List ℕ) (i : ℕ) → digit (getD s i 0) ≡ true → i < length s
 digit-inside s i h = inside s i (omega (arith, digit-from (getD s i 0) h))
@@ -138,14 +135,8 @@ module _ (s : List ℕ) (i e : ℕ) (g : Run inWord s (i + 1) e) where
   pub at-alone : getD s i 0 ≡ 64 → e ≡ i + 1 → Reads s i (Broken i i)
   at-alone h q = record { is = left-at s i e h g q; lies = omega arith }
 
-word-from : (b : ℕ) → opensWord b ≡ true → b ≢ 0
-word-from b h e = true≢false (sym h ∙ ap opensWord e)
-
 pub word-inside : (s : List ℕ) (i : ℕ) → opensWord (getD s i 0) ≡ true → i < length s
-word-inside s i h = inside s i (word-from (getD s i 0) h)
-
-pub byte-inside : (s : List ℕ) (i b : ℕ) → getD s i 0 ≡ suc b → i < length s
-byte-inside s i b h = inside s i (omega arith)
+word-inside s i h = inside s i (omega (arith, word-from (getD s i 0) h))
 
 -- ---- quoted texts
 
@@ -239,19 +230,6 @@ module _ (s : List ℕ) (i b : ℕ) (o : Other s i b) where
 
 -- ---- behind blanks
 
-pub digit-between : (b : ℕ) → 48 ≤ b → b ≤ 57 → digit b ≡ true
-digit-between b h g = rw (le-leb 48 b h, le-leb b 57 g)
-
-pub below-digits : (b : ℕ) → b < 48 → digit b ≡ false
-below-digits b h = rw (lt-leb 48 b h)
-
-pub above-digits : (b : ℕ) → 57 < b → digit b ≡ false
-above-digits b h = and-not (leb 48 b) (lt-leb b 57 h)
-  where
-    and-not : (a : Bool) {c : Bool} → c ≡ false → (a && c) ≡ false
-    and-not true h = h
-    and-not false h = refl
-
 within-before : {s : List ℕ} {i e o n : ℕ} → i ≤ e → Within s e o n → Within s i o n
 within-before h w = record { from = omega (arith, w .from); longer = w .longer; to = w .to }
 
@@ -302,19 +280,15 @@ behind-other-sign s i b c o h n = absent-behind s i b (ap (next (isSignOf b)) (h
 pub behind-none : (s : List ℕ) (i b : ℕ) (t : Token) → Reads s i t → OneOf (0 ∷ 1 ∷ 2 ∷ 3 ∷ 5 ∷ 6 ∷ 7 ∷ 8 ∷ 9 ∷ 10 ∷ []) (tagOf (declared enum) t) → Behind s i b i
 behind-none s i b t h k = absent-behind s i b (ap (next (isSignOf b)) (h .is) ∙ go t k)
   where
-    and-none : (a : Bool) → (a && false) ≡ false
-    and-none true = refl
-    and-none false = refl
-
     go : (t : Token) → OneOf (0 ∷ 1 ∷ 2 ∷ 3 ∷ 5 ∷ 6 ∷ 7 ∷ 8 ∷ 9 ∷ 10 ∷ []) (tagOf (declared enum) t) → next (isSignOf b) (stream s t) ≡ false
     go (Word o e) k = refl
     go (Item o e) k = refl
     go (Number o v e) k = refl
     go (Quoted o e) k = refl
     go (Sign o c) k = absurd (miss (0 ∷ 1 ∷ 2 ∷ 3 ∷ 5 ∷ 6 ∷ 7 ∷ 8 ∷ 9 ∷ 10 ∷ []) 4 tt k)
-    go (Body o) k = and-none (eqb b 45)
-    go (End o) k = and-none (eqb b 45)
-    go (Abort o) k = and-none (eqb b 45)
+    go (Body o) k = and-false (eqb b 45)
+    go (End o) k = and-false (eqb b 45)
+    go (Abort o) k = and-false (eqb b 45)
     go (Unread o e) k = refl
     go (Over o) k = refl
     go (Broken o r) k = refl

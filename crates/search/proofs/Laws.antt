@@ -1,7 +1,5 @@
 -- What the tests say, and what the comparison's answer makes of a found table.
-use mathlib.Core.Path.{_≡_, sym, ap, _∙_}
-use mathlib.Core.Logic.{_↔_}
-use mathlib.Core.Bool.{Bool, true, false, not, true≢false}
+use mathlib.Core.Path.{_≡_, ap, _∙_}
 use mathlib.Core.List.{List}
 use Prim.Native.Nat.{ℕ, _^_}
 use native.Mathlib.Decide.{ℕ-discrete}
@@ -10,10 +8,10 @@ use Rattle.meaning.specs.Decision.{decide-agree}
 use Rattle.automaton.specs.declared.Automaton.{Automaton}
 use Rattle.automaton.specs.View.{view, view-formed}
 use Rattle.compare.specs.declared.Comparison.{Comparison}
-use Rattle.compare.specs.Compared.{Compared}
+use Rattle.compare.specs.Compared.{Compared, Room}
 use Rattle.search.specs.declared.Search.{Search}
 use Rattle.search.specs.declared.Reply.{Reply}
-use Rattle.search.specs.Replies.{Room, Admitted, AskedFor, Found, letters, differ, taken}
+use Rattle.search.specs.Replies.{Admitted, AskedFor, Found, letters, differ, taken}
 use Rattle.search.specs.Judged.{judged}
 
 -- a table of the right size is answered by the comparison's promise

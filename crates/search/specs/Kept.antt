@@ -1,15 +1,12 @@
 -- What every state of a search keeps, and how far each verdict that is taken brings it to its end.
 use mathlib.Core.Path.{_≡_, refl, sym, ap, _∙_, subst}
-use mathlib.Core.Logic.{⊎-elim}
 use mathlib.Core.Bool.{Bool, true, false, cond, _&&_, true≢false}
-use mathlib.Core.List.{List}
 use Prim.Native.Nat.{ℕ, _+_, _-_, _≤_, _<_}
 use native.Mathlib.Omega.{arith}
 use borrow.Author.Tests.{ltb-true, eqb-false}
 use lib.Dec.{ltb, eqb}
-use Rattle.meaning.specs.Automata.{Aut}
-use Rattle.meaning.specs.Agreement.{Agree, Distinguishes}
-use Rattle.meaning.specs.Decision.{witness-any}
+use Rattle.meaning.specs.Agreement.{Agree}
+use Rattle.meaning.specs.Decision.{agree-self}
 use Rattle.meaning.specs.Tests.{and-left, and-right}
 use Rattle.automaton.specs.declared.Automaton.{Automaton}
 use Rattle.automaton.specs.Value.{Valid}
@@ -18,16 +15,6 @@ use Rattle.search.specs.declared.Search.{Search}
 use Rattle.search.specs.Rule.{below, fresh, found, risen, ended, none}
 use Rattle.search.specs.Calls.{Verdict}
 use Rattle.search.specs.Moves.{Fitting, Moves, by-table, by-none, by-unknown}
-
--- ---- an automaton agrees with itself
-
-not-apart : {A : Aut} {x y : List ℕ} → ¬ Distinguishes A A x y
-not-apart d = ⊎-elim (λ t. t .1 (t .0)) (λ t. t .0 (t .1)) (d .apart)
-
-pub agree-self : {a : Automaton} → Valid a → Agree (view a) (view a)
-agree-self v =
-    ⊎-elim (λ g. g) (λ w. absurd (not-apart (w .apart)))
-    (witness-any (record { formed-A = view-formed v; formed-B = view-formed v; same-letters = refl }))
 
 -- ---- what is kept
 
@@ -50,7 +37,7 @@ pub kept-fresh : {a : Automaton} → Valid a → Kept a (fresh a)
 kept-fresh {a} v = record {
   reference = refl;
   valid = v;
-  agrees = agree-self v;
+  agrees = agree-self (view-formed v);
   states-le = omega arith;
   same-propositions = refl;
   n-le = omega arith;

@@ -12,7 +12,7 @@ use Rattle.automaton.specs.Value.{Valid}
 use Rattle.automaton.specs.View.{view}
 use Rattle.search.specs.declared.Search.{Search}
 use Rattle.search.specs.declared.Answer.{Answer}
-use Rattle.search.specs.declared.Answer.the-variants.{Taken, Finished, Refused}
+use Rattle.search.specs.declared.Answer.the-variants.{Taken, Finished}
 use Rattle.search.specs.declared.Reply.{Reply}
 use Rattle.search.specs.Rule as rule
 use Rattle.search.specs.Replies as reply

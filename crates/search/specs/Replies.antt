@@ -12,7 +12,7 @@ use Rattle.automaton.specs.declared.refusal.Refusal.the-variants.{Outside, Dime
 use Rattle.automaton.specs.Value.{Valid, empty}
 use Rattle.automaton.specs.View.{view}
 use Rattle.compare.specs.declared.Comparison.{Comparison}
-use Rattle.compare.specs.Compared.{Shown}
+use Rattle.compare.specs.Compared.{Shown, Room}
 use Rattle.search.specs.declared.Search.{Search}
 use Rattle.search.specs.declared.Answer.{Answer}
 use Rattle.search.specs.declared.Answer.the-variants.{Taken, Finished, Refused}
@@ -61,11 +61,6 @@ pub data Told (s next : Search) (r : Reply) : Type 0 where
   taken : InRange s → s .finished ≡ false → r ≡ replied Taken next → Told s next r
 
 -- ---- a found table
-
--- "Buffers: prefix 256 and loop 1,280"
-pub record Room (prefix loop : List ℕ) : Type 0 where
-  pub prefix-room : 256 ≤ length prefix
-  pub loop-room : 1280 ≤ length loop
 
 -- the table, told to a search that is not finished
 pub record Admitted (s : Search) (table : Automaton) : Type 0 where

@@ -1,12 +1,10 @@
 -- The tables of the product of two automata, filled entry by entry.
-use mathlib.Core.Path.{_≡_, sym, ap, ap₂, _∙_, subst}
+use mathlib.Core.Path.{_≡_, ap, ap₂, _∙_, subst}
 use mathlib.Core.List.{List}
 use Prim.Native.Nat.{ℕ, _+_, _*_, _/_, _%_, _≤_, _<_}
-use native.Mathlib.Decide.{ℕ-discrete}
 use native.Mathlib.Omega.{arith}
-use borrow.Author.Count.{below-more}
 use lib.ListN.{length, set, length-set}
-use lib.Seq.{getD-set-same, getD-set-other}
+use Rattle.meaning.specs.Counting.{filled-next}
 use Rattle.shortest.specs.Graph.{at}
 use Rattle.shortest.specs.Difference.{Below16}
 
@@ -32,13 +30,9 @@ pub tables-more : {na ma nb mb plain table : List ℕ} {i p m : ℕ} → Tables 
 tables-more {na} {ma} {nb} {mb} {plain} {table} {i} {p} {m} T h ep em = record {
   plain-size = length-set plain i (p * 256) ∙ T .plain-size;
   table-size = length-set table i (p * 256 + m) ∙ T .table-size;
-  plain-at = filled plain (λ k. pairAt na nb k * 256) (p * 256) (T .plain-at) (omega (arith, T .plain-size)) (ap (λ x. x * 256) ep);
-  table-at = filled table (λ k. pairAt na nb k * 256 + pairAt ma mb k) (p * 256 + m) (T .table-at) (omega (arith, T .table-size)) (ap₂ (λ x y. x * 256 + y) ep em);
+  plain-at = filled-next plain (λ k. pairAt na nb k * 256) i (p * 256) (omega (arith, T .plain-size)) (T .plain-at) (ap (λ x. x * 256) ep);
+  table-at = filled-next table (λ k. pairAt na nb k * 256 + pairAt ma mb k) i (p * 256 + m) (omega (arith, T .table-size)) (T .table-at) (ap₂ (λ x y. x * 256 + y) ep em);
 }
-  where
-    filled : (xs : List ℕ) (f : ℕ → ℕ) (v : ℕ) → ((k : ℕ) → k < i → at xs k ≡ f k) → i < length xs → v ≡ f i → (k : ℕ) → k < i + 1 → at (set xs i v) k ≡ f k
-    filled xs f v old g e =
-        below-more (λ k. at (set xs i v) k ≡ f k) i (λ k z. getD-set-other xs i k v 0 (omega arith) ∙ old k z) (getD-set-same xs i v 0 g ∙ e)
 
 pub tables-all : {na ma nb mb plain table : List ℕ} {i n : ℕ} → Tables na ma nb mb plain table i → i ≤ n → n ≤ i → Tables na ma nb mb plain table n
 tables-all {na} {ma} {nb} {mb} {plain} {table} {i} {n} T h g = let e : i ≡ n = omega arith in subst (Tables na ma nb mb plain table) e T

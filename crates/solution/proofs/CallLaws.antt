@@ -11,7 +11,7 @@ use Rattle.variables.specs.Limits.{sizes-fit}
 use Rattle.solution.specs.declared.Reader.{Reader}
 use Rattle.solution.specs.declared.Reply.{Reply}
 use Rattle.solution.specs.Calls.{InRange, Called, refusal}
-use Rattle.solution.specs.Objection.{Objects, state, call, Judged}
+use Rattle.solution.specs.Objection.{state, call, Judged}
 
 module _ (a : Automaton) (n m : ℕ) (r : Reader) where
   -- a state in its ranges, and what was measured

@@ -1,6 +1,6 @@
 -- DEFINITION: what a reader makes of each byte, at each place of a line, from every state; and of the end of the text. On whole texts it
 -- is the definition in `SolverText` (law `Agreement.agrees`).
-use mathlib.Core.Bool.{Bool, true, false, cond, not, _&&_}
+use mathlib.Core.Bool.{Bool, true, false, cond, _&&_}
 use mathlib.Core.List.{List, [], _∷_}
 use Prim.Native.Nat.{ℕ, _+_, _-_, _*_}
 use lib.Dec.{ltb, leb, eqb}

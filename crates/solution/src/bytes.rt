@@ -17,7 +17,7 @@ use crate::verdict::spelt;
 use crate::verdict::turns;
 use crate::verdict::unstated;
 ghost use mathlib.Core.Path.{_≡_};
-ghost use Prim.Native.Nat.{_≤_, _<_, _^_};
+ghost use Prim.Native.Nat.{_≤_, _<_};
 ghost use Rattle.solution.specs.Calls.{InRange};
 ghost use Rattle.solution.specs.Machine.{run, step, at-rest, atLimit, atStart, inComment, afterS, beforeWord, inWord, wordDone, nextLetter, afterWord, afterToken, beforeToken, tokenByte, firstByte, afterMinus, inDigits};
 

@@ -4,8 +4,7 @@ use crate::moves::unfit;
 use crate::scan::Scan;
 ghost use mathlib.Core.Path.{_≡_};
 ghost use Prim.Native.Nat.{_≤_, _<_, _^_};
-ghost use lib.IntN.{pos, negℤ, natAbs};
-ghost use lib.Signed.{ltZ};
+ghost use lib.IntN.{natAbs};
 ghost use Rattle.solution.specs.SolverText.{literalOf};
 ghost use Rattle.solution.specs.Machine.{at-rest, grow, markOf, settle, ending};
 

@@ -9,6 +9,7 @@ use lib.IntN.{pos, negℤ, _-ℤ_, +ℤ-idl}
 use mir.Syntax.{w32}
 use mir.Val.{SFits, toZ}
 use mir.ValLaws.{toZ-pos}
+use Rattle.automaton.specs.Powers.{power-is}
 use Rattle.encoding.specs.Variables.{step, mark, path}
 use Rattle.variables.specs.declared.sizes.Sizes.{Sizes}
 use Rattle.variables.specs.Sizes.{Fitting, measured}
@@ -70,9 +71,6 @@ negated-fits (suc k) h = record { sfits = omega arith }
 
 pub false-not : (b : Bool) → b ≡ false → b ≡ true → ⊥
 false-not b e h = false≢true (sym e ∙ h)
-
-pub power-is : {k x : ℕ} → k ≤ 4 → x ≡ 2 ^ min k 4 → x ≡ 2 ^ k
-power-is {k} h e = let i : min k 4 ≡ k = omega arith in e ∙ ap (λ j. 2 ^ j) i
 
 pub measured-is : {n m states sets propositions L M S : ℕ} → m ≤ 4 → sets ≤ 4 → propositions ≤ 4
     → L ≡ 2 ^ min propositions 4 → M ≡ 2 ^ min m 4 → S ≡ 2 ^ min sets 4

@@ -7,12 +7,12 @@ use native.Mathlib.Omega.{arith}
 use borrow.Author.Tests.{lt-ltb, ltb-true, le-leb, leb-true, eq-eqb, eqb-true}
 use lib.Dec.{ltb, leb, eqb}
 use Rattle.meaning.specs.Tests.{and-true, and-left, and-right}
+use Rattle.automaton.specs.Powers.{power-is}
 use Rattle.encoding.specs.Variables.{Var, step, mark, path}
 use Rattle.variables.specs.declared.sizes.Counts.{Counts}
 use Rattle.variables.specs.declared.sizes.Sizes.{Sizes}
 use Rattle.variables.specs.Sizes.{Fitting, Counting}
 use Rattle.variables.specs.Numbers.{InFile, Numbered, NumberIfAny}
-use Rattle.variables.proofs.Laws.{power-is}
 
 -- ---- several tests at once
 

@@ -1,12 +1,13 @@
 -- A reference in "The automaton" with n and m in their limits has sizes that fit, and their numbers are those of its file; bounds of sizes.
 use mathlib.Core.Path.{_≡_, refl, sym}
 use native.Mathlib.Omega.{arith}
-use lib.Pow.{pow-mono, pow-pos}
+use lib.Pow.{pow-pos}
 use Prim.Native.Nat.{ℕ, _+_, _*_, _^_, _≤_}
 use native.Mathlib.Nat.{mul-le-mul}
 use Rattle.automaton.specs.declared.Automaton.{Automaton}
 use Rattle.automaton.specs.Value.{Valid}
 use Rattle.automaton.specs.View.{view}
+use Rattle.automaton.specs.Powers.{power-le, letters-le}
 use Rattle.encoding.specs.Variables.{base-number, base-variables}
 use Rattle.variables.specs.declared.sizes.Sizes.{Sizes}
 use Rattle.variables.specs.Sizes.{Dimensioned, Fitting, sizesOf}
@@ -21,7 +22,7 @@ sizes-fit {a} v d = record {
   r-le = v .states-le;
   s-le = v .sets-le;
   letters-some = pow-pos (a .propositions);
-  letters-le = pow-mono {j = 4} (v .propositions-le);
+  letters-le = letters-le v;
   candidate-subsets = refl;
   reference-subsets = refl;
   steps-is = refl;
@@ -35,7 +36,7 @@ square-le hn hL = mul-le-mul (mul-le-mul hn hn) hL
 
 module _ {z : Sizes} (f : Fitting z) where
   subsets-le : {k x : ℕ} → k ≤ 4 → x ≡ 2 ^ k → x ≤ 16
-  subsets-le h e = omega (arith, e, pow-mono {j = 4} h)
+  subsets-le h e = omega (arith, e, power-le h)
 
   pub candidate-subsets-le : z .candidate .subsets ≤ 16
   candidate-subsets-le = subsets-le (f .m-le) (f .candidate-subsets)

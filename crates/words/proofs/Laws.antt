@@ -1,7 +1,7 @@
 -- Laws of comparing byte for byte.
 use mathlib.Core.Path.{_≡_, refl, ap, _∙_}
 use mathlib.Core.Logic.{_≢_}
-use mathlib.Core.Bool.{Bool, true, false, _&&_}
+use mathlib.Core.Bool.{true, false, _&&_, and-false}
 use mathlib.Core.List.{List, [], _∷_}
 use Prim.Native.Nat.{ℕ, zero, suc, _+_, _-_, _≤_, _<_}
 use native.Mathlib.Omega.{arith}
@@ -15,11 +15,7 @@ pub same-length : (w u : List ℕ) → length u ≢ length w → same w u ≡ fa
 same-length [] [] h = absurd (h refl)
 same-length [] (b ∷ u) h = refl
 same-length (a ∷ w) [] h = refl
-same-length (a ∷ w) (b ∷ u) h = ap (λ x. eqb a b && x) (same-length w u (λ e. h (ap suc e))) ∙ go (eqb a b)
-  where
-    go : (x : Bool) → (x && false) ≡ false
-    go true = refl
-    go false = refl
+same-length (a ∷ w) (b ∷ u) h = ap (λ x. eqb a b && x) (same-length w u (λ e. h (ap suc e))) ∙ and-false (eqb a b)
 
 pub same-step : (w u : List ℕ) (i : ℕ) → i < length w → i < length u → same (drop i w) (drop i u) ≡ (eqb (getD w i 0) (getD u i 0) && same (drop (i + 1) w) (drop (i + 1) u))
 same-step w u i h k = rw (drop-cons w i 0 h, drop-cons u i 0 k, add-one i)

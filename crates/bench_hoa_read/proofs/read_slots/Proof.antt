@@ -1,6 +1,5 @@
 -- `read_slots` is safe and ends: the rest of the texts falls.
 use Prim.Native.Nat.{_-_, _≤_}
-use native.Mathlib.Omega.{arith}
 use borrow.Author.Needs.{needs}
 use lib.ListN.{length}
 use Rattle.bench_hoa_read.proofs.read_slots.Statement.{statement}

@@ -1,7 +1,8 @@
 -- `lines` meets its contract: refusals in document 01's order, then what is found.
 use mathlib.Core.Path.{subst}
 use Rattle.clauses.specs.Step.{short, outside}
-use Rattle.clauses.specs.Shared.{refused-sizes, sizing-of, sizing-refused, measured-of}
+use Rattle.variables.specs.Measured.{sizing-of, sizing-refused, measured-of}
+use Rattle.clauses.specs.Shared.{refused-sizes}
 use Rattle.clause_text.specs.Answers.{BatchFound}
 use Rattle.clause_text.proofs.Answering.{batch-refused, batch-accepted}
 use borrow.Author.Needs.{needs}

@@ -1,7 +1,8 @@
 -- `step` meets its contract: refusals in document 01's order, then what is found.
 use mathlib.Core.Path.{subst}
 use Rattle.clauses.specs.Step.{short, outside, StepFound}
-use Rattle.clauses.specs.Shared.{refused-sizes, sizing-of, sizing-refused, measured-of}
+use Rattle.variables.specs.Measured.{sizing-of, sizing-refused, measured-of}
+use Rattle.clauses.specs.Shared.{refused-sizes}
 use Rattle.clauses.proofs.Laws.{refused, stepped}
 use borrow.Author.Needs.{needs}
 use native.Mathlib.Omega.{arith}

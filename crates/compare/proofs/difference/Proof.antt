@@ -1,8 +1,8 @@
 -- `difference` meets its contract.
 use Rattle.compare.specs.Searched.{searched}
-use Rattle.compare.proofs.Accepting.{power-is}
 use Rattle.compare.specs.Differences.{in-range}
 use borrow.Author.Needs.{needs}
+use Rattle.automaton.specs.Powers.{power-is}
 use Rattle.compare.proofs.difference.Statement.{statement}
 use Rattle.compare.proofs.difference.Tie as tie
 
@@ -31,7 +31,7 @@ returns c =
     let d = c .before .before .before .before .difference in
     searched (record { valid-a = r .valid-a; valid-b = r .valid-b; same-propositions = r .same-propositions; judged = c .before .before .before .before .before .before .before .before .before .before .before .before .before .before .judge-all .ensures })
     (s .args .prefix .now) (d .last .1 .1 .1 .1 .1 .1 .1 .1 .0) (s .args .cycle .now) (d .last .1 .1 .1 .1 .1 .1 .1 .1 .1 .0) (r .prefix-room) (r .loop-room)
-    (c .before .before .before .before .before .before .before .power-of-two .result) (power-is (s .args .first .propositions) (c .before .before .before .before .before .before .before .power-of-two .result) (r .valid-a .propositions-le) (c .before .before .before .before .before .before .before .power-of-two .ensures .0)) (d .result) (d .ensures)
+    (c .before .before .before .before .before .before .before .power-of-two .result) (power-is (r .valid-a .propositions-le) (c .before .before .before .before .before .before .before .power-of-two .ensures .0)) (d .result) (d .ensures)
 
 pub difference-spec : {M : Type 1} → statement M
 difference-spec =

@@ -1,5 +1,6 @@
 -- `by_assignment` meets its contract.
-use Rattle.decode.proofs.Tabling.{sizing-of, sizing-not, measured-of, assigned-answer}
+use Rattle.variables.specs.Measured.{sizing-of, measured-of}
+use Rattle.decode.proofs.Tabling.{sizing-not, assigned-answer}
 use Rattle.decode.specs.Answers.{said}
 use borrow.Author.Needs.{needs}
 use Rattle.decode.proofs.by_assignment.Statement.{statement}
@@ -12,7 +13,7 @@ enum-known-sized : tie.Need-enum-known-sized
 enum-known-sized c = search needs
 
 by-table-requires : tie.Need-by-table-requires
-by-table-requires c κs = (measured-of (sizing-of (c .before .before .before .before .before .measure .ensures) (c .before .before .before .sized .given .1)), c .before .before .before .before .before .before .before .before .pre)
+by-table-requires c κs = let (v, d, e) = sizing-of (c .before .before .before .before .before .measure .ensures) (c .before .before .before .sized .given .1) in (measured-of v d e, c .before .before .before .before .before .before .before .before .pre)
 
 enum-known-sized-2 : tie.Need-enum-known-sized-2
 enum-known-sized-2 c = search needs

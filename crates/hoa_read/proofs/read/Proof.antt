@@ -1,6 +1,5 @@
 -- `read` meets its contract.
 use mathlib.Core.Path.{subst, _∙_}
-use native.Mathlib.Omega.{arith}
 use denote.Ref.{now}
 use Rattle.hoa_text.specs.Tokens.{tokens}
 use Rattle.hoa_text.specs.Header as Hoa

@@ -3,10 +3,10 @@ use mathlib.Core.Path.{refl}
 use Prim.Native.Nat.{_≤_, _-_}
 use native.Mathlib.Omega.{arith}
 use lib.ListN.{length}
+use Rattle.meaning.specs.Counting.{each}
 use Rattle.decimal.specs.Wrote.{Wrote}
 use Rattle.decimal.specs.Writing.{wrote-none, wrote-length, wrote-part}
 use Rattle.hoa_text.specs.Written.{stateLines}
-use Rattle.hoa_text.specs.Basics.{each}
 use Rattle.hoa_write.proofs.Writing.{each-more, each-room, each-whole, part-room, part-le}
 use Rattle.hoa_write.proofs.states.Statement.{statement}
 use Rattle.hoa_write.proofs.states.Tie as tie

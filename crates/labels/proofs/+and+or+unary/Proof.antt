@@ -9,13 +9,14 @@ use Rattle.hoa_text.specs.Labels.{conjunction, disjunction, conjunctions, disju
 use Rattle.hoa_text.specs.Labels as Labels
 use Rattle.hoa_text.specs.LabelProgress.{and-shrinks, or-shrinks}
 use Rattle.hoa_text.specs.Tokens.{digit}
-use Rattle.hoa_text.specs.Offsets.{left}
+use Rattle.hoa_text.specs.Offsets.{left, byte-inside}
 use Rattle.labels.specs.Answers.{Read, Answers}
 use Rattle.labels.proofs.LetterSets.{letters-and, letters-or}
-use Rattle.labels.proofs.Laws.{Joined, joined-first, refused-first, joined-done, joined-refused, joined-again, not-deep, not-refused, not-read, open-deep, open-refused, open-read, atom-read, byte-inside}
+use Rattle.labels.proofs.Laws.{Joined, joined-first, refused-first, joined-done, joined-refused, joined-again, not-deep, not-refused, not-read, open-deep, open-refused, open-read, atom-read}
 use Prim.Native.Nat.{ℕ, _+_, _-_, _*_, _<_}
 use borrow.Fn.Kinds.{In}
 use borrow.Fn.PlainCycle.{Measures, is, falls, and}
+use Rattle.hoa_text.specs.Numbers.{digit-between, below-digits, above-digits}
 use Rattle.labels.proofs.and.Reads as and′
 use Rattle.labels.proofs.and.Kinds as and-kinds
 use Rattle.labels.proofs.+and+or+unary.Lts-and as and-lts
@@ -28,7 +29,6 @@ use Rattle.labels.proofs.+and+or+unary.Lts-unary as unary-lts
 use Rattle.labels.proofs.atoms.proposition.Reads as proposition-reads
 use Rattle.labels.proofs.atoms.constant.Reads as constant-reads
 use Rattle.labels.proofs.closed.Reads as closed-reads
-use Rattle.scan.proofs.Laws.{digit-between, below-digits, above-digits}
 use Rattle.scan.proofs.behind.Reads as behind-reads
 use Rattle.scan.proofs.first_byte.Reads as first-byte-reads
 use Rattle.labels.proofs.+and+or+unary.{statement}

@@ -7,7 +7,8 @@ use borrow.Author.Tests.{not-true, not-false, ltb-true}
 use lib.ListN.{length}
 use native.Mathlib.Omega.{arith}
 use borrow.Author.Needs.{needs}
-use Rattle.numerals.proofs.Parsing.{Begun, begin, no-bytes, no-digit, no-room, one-more, whole, digit-from}
+use Rattle.hoa_text.specs.Numbers.{digit-from}
+use Rattle.numerals.proofs.Parsing.{Begun, begin, no-bytes, no-digit, no-room, one-more, whole}
 use Rattle.numerals.proofs.parse.Statement.{statement}
 use Rattle.numerals.proofs.parse.Tie as tie
 

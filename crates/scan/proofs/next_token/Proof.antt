@@ -2,8 +2,9 @@
 use mathlib.Core.Path.{refl}
 use mathlib.Core.Logic.{⊎-elim}
 use native.Mathlib.Omega.{arith}
-use Rattle.scan.proofs.Laws.{reads-before, reads-over, digit-between, below-digits, above-digits}
+use Rattle.scan.proofs.Laws.{reads-before, reads-over}
 use borrow.Author.Needs.{needs}
+use Rattle.hoa_text.specs.Numbers.{digit-between, below-digits, above-digits}
 use Rattle.scan.proofs.next_token.Statement.{statement}
 use Rattle.scan.proofs.next_token.Tie as tie
 

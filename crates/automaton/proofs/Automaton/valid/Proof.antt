@@ -1,6 +1,6 @@
 -- `Automaton::valid` meets its contract.
 use mathlib.Core.Path.{sym, _∙_}
-use Rattle.automaton.proofs.Meant.{fits-valid, valid-fits}
+use Rattle.automaton.specs.Meant.{fits-valid, valid-fits}
 use borrow.Author.Needs.{needs}
 use Rattle.automaton.proofs.Automaton.valid.Statement.{statement}
 use Rattle.automaton.proofs.Automaton.valid.Tie as tie

@@ -3,8 +3,7 @@ use mathlib.Core.Path.{_≡_, sym, ap, _∙_}
 use mathlib.Core.Bool.{true, not}
 use Prim.Native.Nat.{_≤_, _-_, _/_, _%_}
 use native.Mathlib.Omega.{arith}
-use lib.ListN.{getD}
-use Rattle.automaton.proofs.Laws.{passes-none, passes-more, passes-all, fails}
+use Rattle.automaton.specs.Passes.{passes-none, passes-more, passes-all, fails}
 use Rattle.automaton.specs.Tests.{passes, clash}
 use borrow.Author.Needs.{needs}
 use Rattle.automaton.proofs.names.apart.Statement.{statement}

@@ -5,7 +5,7 @@ use Prim.Native.Nat.{_≤_, _-_, _/_}
 use native.Mathlib.Omega.{arith}
 use borrow.Author.Tests.{not-true, not-false}
 use lib.ListN.{getD}
-use Rattle.automaton.proofs.Laws.{passes-none, passes-more, passes-all, fails}
+use Rattle.automaton.specs.Passes.{passes-none, passes-more, passes-all, fails}
 use Rattle.automaton.specs.Tests.{passes, byteFits}
 use borrow.Author.Needs.{needs}
 use Rattle.automaton.proofs.names.bytes_fit.Statement.{statement}

@@ -1,7 +1,6 @@
 -- `more_lines` meets its contract.
 use mathlib.Core.Path.{refl}
-use Prim.Native.Nat.{_+_, _-_}
-use lib.ListN.{length}
+use Prim.Native.Nat.{_+_}
 use Rattle.clause_text.proofs.Batches.{line-further, room-further}
 use Rattle.clause_text.proofs.Blocks.{in-group, extensions-short, extensions-further}
 use borrow.Author.Needs.{needs}

@@ -3,7 +3,6 @@ use mathlib.Core.Path.{refl, _∙_}
 use lib.Bits.{or-lt}
 use Rattle.decimal.specs.Writing.{wrote-length}
 use Rattle.clause_text.proofs.Blocks.{pieces-length, line-written}
-use borrow.Author.Needs.{needs}
 use native.Mathlib.Omega.{arith}
 use Rattle.clause_text.proofs.block.extension_line.Statement.{statement}
 use Rattle.clause_text.proofs.block.extension_line.Tie as tie

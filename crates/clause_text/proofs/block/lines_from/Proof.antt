@@ -1,8 +1,7 @@
 -- `lines_from` meets its contract. The invariant: the lines on to a position are written, and texts are kept for its indices.
-use mathlib.Core.Path.{_≡_}
-use Prim.Native.Nat.{_-_, _<_, _≤_}
+use Prim.Native.Nat.{_-_}
 use Rattle.decimal.specs.Writing.{wrote-length}
-use Rattle.clause_list.specs.Indices.{extensions, extension-within}
+use Rattle.clause_list.specs.Indices.{extensions}
 use Rattle.clause_text.proofs.Blocks.{extensions-none, extensions-some, extensions-le, AtBlock, indices-within, indices-lt, step-lt, line-short, line-more}
 use native.Mathlib.Omega.{arith}
 use Rattle.clause_text.proofs.block.lines_from.Statement.{statement}

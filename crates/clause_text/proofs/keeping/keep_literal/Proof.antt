@@ -3,7 +3,6 @@ use mathlib.Core.Path.{_≡_, _∙_, subst}
 use mathlib.Core.List.{[], _∷_}
 use mir.Syntax.{w32}
 use mir.Val.{toZ, ofZ}
-use lib.ListN.{length}
 use Rattle.decimal.specs.Wrote.{Wrote}
 use Rattle.clause_text.specs.Pieces.{spacedText}
 use Rattle.clause_text.specs.Blocks.{signed}

@@ -1,5 +1,5 @@
 -- `literal` meets its contract.
-use mathlib.Core.Path.{_≡_, sym, ap, _∙_}
+use mathlib.Core.Path.{sym, ap, _∙_}
 use Rattle.clause_text.proofs.Signs.{stored}
 use borrow.Author.Needs.{needs}
 use Rattle.clause_text.specs.Blocks.{signed}

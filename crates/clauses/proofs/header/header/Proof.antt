@@ -1,7 +1,7 @@
 -- `header` meets its contract.
 use mathlib.Core.Path.{subst}
 use Rattle.clauses.specs.Header.{HeaderTotals}
-use Rattle.clauses.specs.Shared.{sizing-of, sizing-refused, measured-of}
+use Rattle.variables.specs.Measured.{sizing-of, sizing-refused, measured-of}
 use Rattle.clauses.proofs.Counting.{headed}
 use borrow.Author.Needs.{needs}
 use Rattle.clauses.proofs.header.header.Statement.{statement}

@@ -1,6 +1,6 @@
 -- `acceptance::judge_all` meets its contract.
-use mathlib.Core.Path.{_≡_, sym, ap₂, _∙_}
-use Prim.Native.Nat.{_-_, _/_, _%_, _≤_}
+use mathlib.Core.Path.{sym, ap₂, _∙_}
+use Prim.Native.Nat.{_-_, _/_, _%_}
 use native.Mathlib.Omega.{arith}
 use Rattle.meaning.specs.Tests.{all}
 use Rattle.meaning.specs.BitSet.{has}

@@ -1,12 +1,12 @@
 -- `cells::marks_with` meets its contract.
 use mathlib.Core.Path.{_≡_, ap, _∙_}
-use Prim.Native.Nat.{_-_, _≤_}
+use Prim.Native.Nat.{_≤_}
 use native.Mathlib.Omega.{arith}
 use borrow.Author.Needs.{needs}
 use lib.Dec.{eqb}
 use lib.ListN.{getD}
+use Rattle.meaning.specs.BitSet.{bit}
 use Rattle.encoding.specs.Variables.{mark}
-use Rattle.encoding.specs.Clauses.{bit}
 use Rattle.variables.specs.Numbers.{numberOf}
 use Rattle.decode.specs.Kept.{mark-slot}
 use Rattle.decode.proofs.Laws.{upper, upper-none, upper-more, upper-all, upper-lt}

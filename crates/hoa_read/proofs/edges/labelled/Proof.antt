@@ -2,7 +2,7 @@
 use mathlib.Core.Path.{subst}
 use borrow.Author.Needs.{needs}
 use Rattle.scan.specs.Answers.{Reads}
-use Rattle.hoa_read.proofs.TokenLaws.{no-number}
+use Rattle.scan.proofs.Due.{number-missing}
 use Rattle.hoa_read.proofs.EdgeLaws.{unclosed, arrived, arrived-nowhere, no-destination}
 use Rattle.hoa_read.proofs.edges.labelled.Statement.{statement}
 use Rattle.hoa_read.proofs.edges.labelled.Tie as tie
@@ -36,7 +36,7 @@ returns-3 c =
     arrived-nowhere _ _ _ _ _ (c .before .before .before .before .before .before .behind .ensures) (c .before .before .before .before .before .if1 .left) _ _ _ k (c .if2 .left)
 
 returns-4 : tie.Need-returns-4
-returns-4 c = no-destination _ _ _ _ _ (c .before .before .before .before .behind .ensures) (c .before .before .before .if1 .left) (no-number _ _ _ (c .before .before .next-token .ensures) (c .before .match .keys2)) _ (c .offset2 .ensures)
+returns-4 c = no-destination _ _ _ _ _ (c .before .before .before .before .behind .ensures) (c .before .before .before .if1 .left) (number-missing _ _ _ (c .before .before .next-token .ensures) (c .before .match .keys2)) _ (c .offset2 .ensures)
 
 pub labelled-spec : {M : Type 1} → statement M
 labelled-spec =

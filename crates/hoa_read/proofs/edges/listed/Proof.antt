@@ -5,7 +5,7 @@ use native.Mathlib.Omega.{arith}
 use borrow.Author.Needs.{needs}
 use lib.ListN.{length}
 use Rattle.scan.specs.Answers.{Reads}
-use Rattle.hoa_read.proofs.TokenLaws.{no-number}
+use Rattle.scan.proofs.Due.{number-missing}
 use Rattle.hoa_read.proofs.EdgeLaws.{Listed, mark-undeclared, mark-listed, marks-closed}
 use Rattle.hoa_read.proofs.edges.listed.Statement.{statement}
 use Rattle.hoa_read.proofs.edges.listed.Tie as tie
@@ -47,7 +47,7 @@ closed-requires : tie.Need-closed-requires Inv-loop μ-loop
 closed-requires c κs = c .before .before .loop .inv .small
 
 returns-2 : tie.Need-returns-2 Inv-loop μ-loop
-returns-2 c = marks-closed _ _ _ _ _ (c .before .before .before .loop .inv) (c .closed .result) (c .closed .ensures) (no-number _ _ _ (c .before .before .next-token .ensures) (c .before .match .keys2))
+returns-2 c = marks-closed _ _ _ _ _ (c .before .before .before .loop .inv) (c .closed .result) (c .closed .ensures) (number-missing _ _ _ (c .before .before .next-token .ensures) (c .before .match .keys2))
 
 pub listed-spec : {M : Type 1} → statement M
 listed-spec =

@@ -2,7 +2,7 @@
 use mathlib.Core.Path.{sym, _∙_, subst}
 use borrow.Author.Needs.{needs}
 use Rattle.scan.specs.Answers.{Reads}
-use Rattle.hoa_read.proofs.TokenLaws.{no-number}
+use Rattle.scan.proofs.Due.{number-missing}
 use Rattle.hoa_read.proofs.PartLaws.{state-undeclared, state-twice, state-first, no-state}
 use Rattle.hoa_read.proofs.parts.state_part.Statement.{statement}
 use Rattle.hoa_read.proofs.parts.state_part.Tie as tie
@@ -32,7 +32,7 @@ returns-3 : tie.Need-returns-3
 returns-3 c = state-first _ _ _ _ _ _ _ (subst (Reads _ _) (c .before .before .before .before .before .start .given .1) (c .before .before .before .before .before .before .before .next-token .ensures)) (c .before .before .before .if1 .left) (c .before .before .before .before .before .before .before .before .before .pre) (sym (c .before .before .has .ensures) ∙ c .before .if2 .left) _ (c .unquoted .ensures)
 
 returns-4 : tie.Need-returns-4
-returns-4 c = no-state _ _ _ _ (no-number _ _ _ (c .before .before .next-token .ensures) (c .before .match .keys2)) _ (c .offset .ensures)
+returns-4 c = no-state _ _ _ _ (number-missing _ _ _ (c .before .before .next-token .ensures) (c .before .match .keys2)) _ (c .offset .ensures)
 
 pub state-part-spec : {M : Type 1} → statement M
 state-part-spec =

@@ -1,8 +1,9 @@
 -- `below` meets its contract.
 use mathlib.Core.Path.{ap}
 use Prim.Native.Nat.{_%_}
+use native.Mathlib.Omega.{arith}
 use borrow.Author.Needs.{needs}
-use Rattle.hoa_write.proofs.Values.{small-power}
+use Rattle.automaton.specs.Powers.{power-is}
 use Rattle.hoa_write.proofs.edges.below.Statement.{statement}
 use Rattle.hoa_write.proofs.edges.below.Tie as tie
 
@@ -13,7 +14,7 @@ rem-result : tie.Need-rem-result
 rem-result c = search needs
 
 returns : tie.Need-returns
-returns c = ap (λ p. c .before .args .m % p) (small-power (c .before .args .i) (c .power-of-two .ensures .0) (c .before .pre))
+returns c = ap (λ p. c .before .args .m % p) (power-is {k = c .before .args .i} (omega (arith, c .before .pre)) (c .power-of-two .ensures .0))
 
 pub below-spec : {M : Type 1} → statement M
 below-spec = tie.close (tie.spec power-of-two-requires rem-result returns)

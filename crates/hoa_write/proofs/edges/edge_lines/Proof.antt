@@ -4,12 +4,12 @@ use Prim.Native.Nat.{_≤_, _-_}
 use native.Mathlib.Omega.{arith}
 use borrow.Author.Needs.{needs}
 use lib.ListN.{length}
+use Rattle.meaning.specs.Counting.{each}
 use Rattle.automaton.specs.Value.{letters}
+use Rattle.automaton.specs.Powers.{power-is}
 use Rattle.decimal.specs.Wrote.{Wrote}
 use Rattle.decimal.specs.Writing.{wrote-none, wrote-length, wrote-part}
 use Rattle.hoa_text.specs.Written.{edgeLine}
-use Rattle.hoa_text.specs.Basics.{each}
-use Rattle.hoa_write.proofs.Values.{letters-are}
 use Rattle.hoa_write.proofs.Writing.{each-more, each-room, each-whole, part-room, part-le}
 use Rattle.hoa_write.proofs.edges.edge_lines.Statement.{statement}
 use Rattle.hoa_write.proofs.edges.edge_lines.Tie as tie
@@ -43,7 +43,7 @@ edge-line-requires : tie.Need-edge-line-requires Inv-loop μ-loop
 edge-line-requires c κs =
     let s = c .before .before .before .before .before in
     let l = c .before .before .loop in
-    let e = letters-are (s .pre .0) (c .before .before .before .power-of-two .ensures .0) in
+    let e = power-is (s .pre .0 .propositions-le) (c .before .before .before .power-of-two .ensures .0) in
     (s .pre .0, s .pre .1, omega (arith, e), part-room (l .out) (l .at) _ (each-room (edgeLine (s .args .a) (s .args .q)) (l .l) (letters (s .args .a)) (l .inv .1) (omega (arith, e)) (omega (arith, s .pre .2))))
 
 add-at : tie.Need-add-at Inv-loop μ-loop
@@ -71,7 +71,7 @@ returns : tie.Need-returns Inv-loop μ-loop
 returns c =
     let s = c .before .before .before .before in
     let l = c .before .loop in
-    let e = letters-are (s .pre .0) (c .before .before .power-of-two .ensures .0) in
+    let e = power-is (s .pre .0 .propositions-le) (c .before .before .power-of-two .ensures .0) in
     each-whole (edgeLine (s .args .a) (s .args .q)) (l .l) (letters (s .args .a)) (omega (arith, e)) (l .inv .1)
 
 pub edge-lines-spec : {M : Type 1} → statement M

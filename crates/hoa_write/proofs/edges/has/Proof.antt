@@ -1,6 +1,11 @@
 -- `has` meets its contract.
+use mathlib.Core.Path.{ap, _∙_}
+use Prim.Native.Nat.{_/_, _%_}
+use native.Mathlib.Omega.{arith}
 use borrow.Author.Needs.{needs}
-use Rattle.hoa_write.proofs.Values.{small-power, has-test}
+use lib.Dec.{eqb}
+use Rattle.meaning.specs.BitSet.{has-test}
+use Rattle.automaton.specs.Powers.{power-is}
 use Rattle.hoa_write.proofs.edges.has.Statement.{statement}
 use Rattle.hoa_write.proofs.edges.has.Tie as tie
 
@@ -11,7 +16,9 @@ div-result : tie.Need-div-result
 div-result c = search needs
 
 returns : tie.Need-returns
-returns c = has-test (c .before .args .m) (c .before .args .i) (small-power (c .before .args .i) (c .power-of-two .ensures .0) (c .before .pre))
+returns c =
+    ap (λ p. eqb (c .before .args .m / p % 2) 1) (power-is {k = c .before .args .i} (omega (arith, c .before .pre)) (c .power-of-two .ensures .0))
+    ∙ has-test (c .before .args .m) (c .before .args .i)
 
 pub has-spec : {M : Type 1} → statement M
 has-spec = tie.close (tie.spec power-of-two-requires div-result returns)

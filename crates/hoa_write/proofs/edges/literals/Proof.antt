@@ -1,9 +1,9 @@
 -- `literals` meets its contract: what is written is the first i pieces.
 use Prim.Native.Nat.{_≤_, _-_}
 use native.Mathlib.Omega.{arith}
+use Rattle.meaning.specs.Counting.{each}
 use Rattle.decimal.specs.Wrote.{Wrote}
 use Rattle.decimal.specs.Writing.{wrote-none, wrote-length}
-use Rattle.hoa_text.specs.Basics.{each}
 use Rattle.hoa_write.specs.Pieces.{literalPiece}
 use Rattle.hoa_write.proofs.Writing.{each-more, each-room, each-whole}
 use Rattle.hoa_write.proofs.edges.literals.Statement.{statement}

@@ -2,8 +2,8 @@
 use native.Mathlib.Omega.{arith}
 use borrow.Author.Needs.{needs}
 use lib.ListN.{length, length-append}
+use Rattle.meaning.specs.Counting.{each}
 use Rattle.automaton.specs.Value.{letters}
-use Rattle.hoa_text.specs.Basics.{each}
 use Rattle.hoa_text.specs.Written.{stateLine, edgeLine}
 use Rattle.hoa_write.proofs.Writing.{wrote-rest, rest-room}
 use Rattle.hoa_write.proofs.edges.state_lines.Statement.{statement}

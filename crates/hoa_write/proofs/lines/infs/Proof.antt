@@ -2,9 +2,9 @@
 use Prim.Native.Nat.{_≤_, _-_}
 use native.Mathlib.Omega.{arith}
 use lib.ListN.{length-append}
+use Rattle.meaning.specs.Counting.{each}
 use Rattle.decimal.specs.Wrote.{Wrote}
 use Rattle.decimal.specs.Writing.{wrote-none, wrote-length, wrote-then}
-use Rattle.hoa_text.specs.Basics.{each}
 use Rattle.hoa_write.specs.Pieces.{infPiece}
 use Rattle.hoa_write.proofs.Writing.{each-more, each-room, each-whole}
 use Rattle.hoa_write.proofs.lines.infs.Statement.{statement}

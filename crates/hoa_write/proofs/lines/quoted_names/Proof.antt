@@ -1,10 +1,10 @@
 -- `quoted_names` meets its contract: what is written is the first i names.
 use Prim.Native.Nat.{_≤_, _-_}
 use native.Mathlib.Omega.{arith}
+use Rattle.meaning.specs.Counting.{each}
 use Rattle.decimal.specs.Wrote.{Wrote}
 use Rattle.decimal.specs.Writing.{wrote-none, wrote-length}
 use Rattle.hoa_text.specs.Written.{quotedName}
-use Rattle.hoa_text.specs.Basics.{each}
 use Rattle.hoa_write.proofs.Writing.{each-more, each-room, each-whole}
 use Rattle.hoa_write.proofs.lines.quoted_names.Statement.{statement}
 use Rattle.hoa_write.proofs.lines.quoted_names.Tie as tie

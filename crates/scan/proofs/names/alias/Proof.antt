@@ -1,8 +1,9 @@
 -- `names::alias` meets its contract.
 use native.Mathlib.Omega.{arith}
 use denote.Ref.{now}
-use Rattle.scan.proofs.Laws.{byte-inside, is-alias, at-alone}
+use Rattle.scan.proofs.Laws.{is-alias, at-alone}
 use borrow.Author.Needs.{needs}
+use Rattle.hoa_text.specs.Offsets.{byte-inside}
 use Rattle.scan.proofs.names.alias.Statement.{statement}
 use Rattle.scan.proofs.names.alias.Tie as tie
 

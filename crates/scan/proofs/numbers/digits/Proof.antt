@@ -7,9 +7,10 @@ use lib.Seq.{slice}
 use borrow.Author.Tests.{not-true, not-false}
 use mathlib.Core.Path.{sym, _∙_}
 use Rattle.hoa_text.specs.Tokens.{digit, value}
-use Rattle.scan.proofs.Laws.{Scanned, scanned-none, scanned-more, scanned-run, scanned-end, digit-from, no-digits, one-more-digit}
+use Rattle.scan.proofs.Laws.{Scanned, scanned-none, scanned-more, scanned-run, scanned-end, no-digits, one-more-digit}
 use borrow.Author.Needs.{needs}
 use denote.Ref.{now}
+use Rattle.hoa_text.specs.Numbers.{digit-from}
 use Rattle.scan.proofs.numbers.digits.Statement.{statement}
 use Rattle.scan.proofs.numbers.digits.Tie as tie
 

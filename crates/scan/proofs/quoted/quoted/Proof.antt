@@ -4,9 +4,10 @@ use lib.ListN.{length}
 use mathlib.Core.Path.{sym, _∙_}
 use Rattle.hoa_text.specs.QuotedOffsets.{InQuotes, quotes-open}
 use native.Mathlib.Omega.{arith}
-use Rattle.scan.proofs.Laws.{quotes-step, quotes-close, quotes-cut, byte-inside}
+use Rattle.scan.proofs.Laws.{quotes-step, quotes-close, quotes-cut}
 use borrow.Author.Needs.{needs}
 use denote.Ref.{now}
+use Rattle.hoa_text.specs.Offsets.{byte-inside}
 use Rattle.scan.proofs.quoted.quoted.Statement.{statement}
 use Rattle.scan.proofs.quoted.quoted.Tie as tie
 

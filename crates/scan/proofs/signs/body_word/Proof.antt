@@ -1,8 +1,9 @@
 -- `signs::body_word` meets its contract.
 use mathlib.Core.Path.{sym, _∙_}
 use denote.Ref.{now}
-use Rattle.scan.proofs.Laws.{byte-inside, is-body, is-end, is-abort, is-no-word}
+use Rattle.scan.proofs.Laws.{is-body, is-end, is-abort, is-no-word}
 use borrow.Author.Needs.{needs}
+use Rattle.hoa_text.specs.Offsets.{byte-inside}
 use Rattle.scan.proofs.signs.body_word.Statement.{statement}
 use Rattle.scan.proofs.signs.body_word.Tie as tie
 

@@ -2,10 +2,11 @@
 use mathlib.Core.Path.{refl}
 use native.Mathlib.Omega.{arith}
 use Rattle.automaton.specs.Value.{Valid}
-use Rattle.search.specs.Replies.{InRange, Room, Admitted, AskedFor, short-prefix, short-loop, outside, finished, dimensions}
+use Rattle.search.specs.Replies.{InRange, Admitted, AskedFor, short-prefix, short-loop, outside, finished, dimensions}
 use Rattle.meaning.specs.Tests.{fails-not, passes-so}
 use Rattle.search.proofs.Laws.{compared}
 use borrow.Author.Needs.{needs}
+use Rattle.compare.specs.Compared.{Room}
 use Rattle.search.proofs.Search.found.Statement.{statement}
 use Rattle.search.proofs.Search.found.Tie as tie
 

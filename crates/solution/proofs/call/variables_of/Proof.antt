@@ -1,6 +1,5 @@
 -- `call::variables_of` meets its contract.
 use mathlib.Core.Path.{refl}
-use native.Mathlib.Omega.{arith}
 use Rattle.variables.specs.Limits.{marks-le}
 use borrow.Author.Needs.{needs}
 use Rattle.solution.proofs.call.variables_of.Statement.{statement}

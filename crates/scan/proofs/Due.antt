@@ -1,4 +1,4 @@
--- Laws of the next token: no number, and an item.
+-- A number that is due and does not stand there.
 use mathlib.Core.Path.{_≡_, refl, sym, ap, _∙_}
 use mathlib.Core.List.{List, [], _∷_}
 use mathlib.Core.Option.{none}
@@ -8,18 +8,19 @@ use types.Run.{OneOf, miss}
 use Rattle.automaton.specs.declared.refusal.Refusal.the-variants.{Form}
 use Rattle.hoa_text.specs.Basics.{option}
 use Rattle.hoa_text.specs.Tokens.{Stream}
-use Rattle.hoa_text.specs.Grammar.{numberOf, rest, at, gives, refuses, peek, due}
+use Rattle.hoa_text.specs.Grammar.{numberOf, rest, at, peek, gives, refuses, due}
 use Rattle.hoa_text.specs.Offsets.{left}
 use Rattle.scan.specs.declared.Token.{Token}
 use Rattle.scan.specs.declared.Token.the-variants.{Word, Item, Number, Quoted, Sign, Body, End, Abort, Unread, Over, Broken}
 use Rattle.scan.specs.Answers.{stream, Reads}
 use Rattle.scan.proofs.Token.{enum}
 
 abbrev pub other-than-number : List ℕ
 other-than-number = 0 ∷ 1 ∷ 3 ∷ 4 ∷ 5 ∷ 6 ∷ 7 ∷ 8 ∷ 9 ∷ 10 ∷ []
 
-pub no-number : (s : List ℕ) (i : ℕ) (t : Token) → Reads s i t → OneOf other-than-number (tagOf (declared enum) t) → peek numberOf (left s i) ≡ none
-no-number s i t h g = ap (peek numberOf) (h .is) ∙ go t g
+-- the next token is no number
+pub number-missing : (s : List ℕ) (i : ℕ) (t : Token) → Reads s i t → OneOf other-than-number (tagOf (declared enum) t) → peek numberOf (left s i) ≡ none
+number-missing s i t h g = ap (peek numberOf) (h .is) ∙ go t g
   where
     go : (t : Token) → OneOf other-than-number (tagOf (declared enum) t) → peek numberOf (stream s t) ≡ none
     go (Word o e) g = refl
@@ -34,5 +35,6 @@ no-number s i t h g = ap (peek numberOf) (h .is) ∙ go t g
     go (Over o) g = refl
     go (Broken o r) g = refl
 
+-- and one is due
 pub number-due : (u : Stream) (o : ℕ) → peek numberOf u ≡ none → o ≡ at u → due numberOf u ≡ refuses (Form o)
 number-due u o e q = ap (λ x. option x (refuses (Form (at u))) (λ a. gives (a, rest u))) e ∙ ap (λ o. refuses (Form o)) (sym q)

@@ -1,20 +1,22 @@
 -- The test of the names: their lengths, their bytes, and that no two are alike.
-use mathlib.Core.Path.{_≡_, refl, sym, ap, _∙_, subst}
-use mathlib.Core.Logic.{_≢_, _⊎_, inl, inr}
-use mathlib.Core.Bool.{Bool, true, false, not, _&&_, true≢false}
+use mathlib.Core.Path.{_≡_, sym, ap, _∙_, subst}
+use mathlib.Core.Logic.{_≢_}
+use mathlib.Core.Bool.{true, false, not, _&&_}
 use mathlib.Core.List.{List}
 use Prim.Native.Nat.{ℕ, _+_, _*_, _/_, _%_, _≤_, _<_}
-use native.Mathlib.Decide.{decLt, ℕ-discrete}
+use native.Mathlib.Decide.{decLt}
 use native.Mathlib.Omega.{arith}
 use borrow.Author.Tests.{lt-ltb, le-ltb, le-leb, eq-eqb, ne-eqb, leb-true, eqb-true, eqb-false, not-true}
+use lib.Arith.{digits-div, digits-mod}
 use lib.ListN.{length, getD}
 use lib.Seq.{ext-getD}
 use lib.Dec.{leb, eqb}
-use Rattle.meaning.specs.Tests.{and-true, and-left, and-right, truth}
+use Rattle.meaning.specs.Tests.{and-true, and-left, and-right}
 use Rattle.automaton.specs.Value.{NameByte}
+use Rattle.automaton.specs.Rows.{place}
 use Rattle.automaton.specs.Names.{slot, slot-length, slot-byte, printable-means, means-printable}
 use Rattle.automaton.specs.Tests.{lengthFits, lengthsFit, byteFits, bytesFit, alike, clash, apart}
-use Rattle.automaton.proofs.Laws.{passes-at, passes-of}
+use Rattle.automaton.specs.Passes.{passes-at, passes-of}
 
 -- ---- lengths
 
@@ -45,33 +47,23 @@ module _ (k : ℕ) (lengths : List ℕ) where
 
 -- ---- bytes
 
--- byte j of name i stands at i * 16 + j
-name-at : (i j : ℕ) → j < 16 → (i * 16 + j) / 16 ≡ i
-name-at i j h = omega arith
-
-byte-at : (i j : ℕ) → j < 16 → (i * 16 + j) % 16 ≡ j
-byte-at i j h = omega arith
-
 module _ (names lengths : List ℕ) where
   module _ (h : bytesFit names lengths ≡ true) (i j : ℕ) (hi : i < 4) (hj : j < 16) where
     here : byteFits (i * 16 + j) (getD names (i * 16 + j) 0) (getD lengths i 0) ≡ true
     here =
-        subst (λ k. byteFits (i * 16 + j) (getD names (i * 16 + j) 0) (getD lengths k 0) ≡ true) (name-at i j hj)
+        subst (λ k. byteFits (i * 16 + j) (getD names (i * 16 + j) 0) (getD lengths k 0) ≡ true) (digits-div i hj)
         (passes-at 64 (λ k. byteFits k (getD names k 0) (getD lengths (k / 16) 0)) h (i * 16 + j) (omega arith))
 
     pub byte-means : j < getD lengths i 0 → NameByte (getD names (i * 16 + j) 0)
-    byte-means g = let f : (i * 16 + j) % 16 < getD lengths i 0 = rw (byte-at i j hj) g in printable-means _ (rw (lt-ltb _ _ f) at here)
+    byte-means g = let f : (i * 16 + j) % 16 < getD lengths i 0 = rw (digits-mod i hj) g in printable-means _ (rw (lt-ltb _ _ f) at here)
 
     pub byte-zero : getD lengths i 0 ≤ j → getD names (i * 16 + j) 0 ≡ 0
-    byte-zero g = let f : getD lengths i 0 ≤ (i * 16 + j) % 16 = rw (byte-at i j hj) g in eqb-true _ _ (rw (le-ltb _ _ f) at here)
+    byte-zero g = let f : getD lengths i 0 ≤ (i * 16 + j) % 16 = rw (digits-mod i hj) g in eqb-true _ _ (rw (le-ltb _ _ f) at here)
 
   pub bytes-of : ((i j : ℕ) → i < 4 → j < 16 → j < getD lengths i 0 → NameByte (getD names (i * 16 + j) 0))
       → ((i j : ℕ) → i < 4 → j < 16 → getD lengths i 0 ≤ j → getD names (i * 16 + j) 0 ≡ 0) → bytesFit names lengths ≡ true
   bytes-of means zero = passes-of 64 _ (λ k h. go k h (decLt (k % 16) (getD lengths (k / 16) 0)))
     where
-      place : (k : ℕ) → k / 16 * 16 + k % 16 ≡ k
-      place k = omega arith
-
       go : (k : ℕ) → k < 64 → Dec (k % 16 < getD lengths (k / 16) 0) → byteFits k (getD names k 0) (getD lengths (k / 16) 0) ≡ true
       go k h (yes g) = rw (lt-ltb _ _ g) (means-printable _ (subst (λ x. NameByte (getD names x 0)) (place k) (means (k / 16) (k % 16) (omega arith) (omega arith) g)))
       go k h (no g) =

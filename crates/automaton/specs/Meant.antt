@@ -1,5 +1,5 @@
 -- THE TEST OF A VALUE: it passes if and only if the value lies in "The automaton".
-use mathlib.Core.Path.{_≡_, sym, ap, _∙_, subst, subst₂}
+use mathlib.Core.Path.{_≡_, refl, sym, _∙_, subst, subst₂}
 use mathlib.Core.Bool.{true, false, _&&_, true≢false}
 use mathlib.Core.Logic.{_≢_, _⊎_, inl, inr}
 use Prim.Native.Nat.{ℕ, _^_, _≤_, _<_, min}
@@ -8,20 +8,13 @@ use native.Mathlib.Omega.{arith}
 use borrow.Author.Tests.{le-leb, lt-ltb, leb-true, ltb-true}
 use lib.Dec.{leb, ltb}
 use lib.ListN.{length}
-use lib.Pow.{pow-mono}
 use Rattle.meaning.specs.Tests.{and-true, and-left, and-right, truth}
 use Rattle.automaton.specs.declared.Automaton.{Automaton}
-use Rattle.automaton.specs.Value.{Valid, NameByte, letters, name, nameLength, nameByte}
+use Rattle.automaton.specs.Value.{Valid, letters, nameLength, nameByte}
+use Rattle.automaton.specs.Powers.{power-is, power-le}
 use Rattle.automaton.specs.Tests.{countsFit, filled, tablesFit, lengthsFit, bytesFit, alike, apart, named, fits}
-use Rattle.automaton.proofs.TableTest.{filled-below, filled-zero, filled-of}
-use Rattle.automaton.proofs.NameTest.{length-some, length-le, length-zero, lengths-of, byte-means, byte-zero, bytes-of, apart-at, apart-of, equal-alike, alike-equal}
-
--- letters and sets of marks: 2 to a power of at most 4
-power-is : (k : ℕ) → k ≤ 4 → 2 ^ min k 4 ≡ 2 ^ k
-power-is k h = let e : min k 4 ≡ k = omega arith in ap (λ n. 2 ^ n) e
-
-power-le : (k : ℕ) → k ≤ 4 → 2 ^ k ≤ 16
-power-le k h = pow-mono {j = 4} h
+use Rattle.automaton.specs.TableTest.{filled-below, filled-zero, filled-of}
+use Rattle.automaton.specs.NameTest.{length-some, length-le, length-zero, lengths-of, byte-means, byte-zero, bytes-of, apart-at, apart-of, equal-alike, alike-equal}
 
 module _ (a : Automaton) where
   -- the parts of the test, each as it stands in `fits`
@@ -55,8 +48,8 @@ module _ (a : Automaton) where
         start-lt = ltb-true _ _ (and-left (ltb (a .start) (a .states)) (leb (a .propositions) 4 && leb (a .sets) 4) c₁);
         propositions-le = k;
         sets-le = m;
-        destinations = subst (λ L. filled (a .states) L (a .states) (a .destinations) ≡ true) (power-is (a .propositions) k) (and-left D M tables);
-        marks = subst₂ (λ L c. filled (a .states) L c (a .marks) ≡ true) (power-is (a .propositions) k) (power-is (a .sets) m) (and-right D M tables);
+        destinations = subst (λ L. filled (a .states) L (a .states) (a .destinations) ≡ true) (power-is k refl) (and-left D M tables);
+        marks = subst₂ (λ L c. filled (a .states) L c (a .marks) ≡ true) (power-is k refl) (power-is m refl) (and-right D M tables);
         lengths = and-left (lengthsFit (a .lengths) (a .propositions)) (bytesFit (a .names) (a .lengths) && apart (a .names) (a .propositions)) names;
         bytes = and-left (bytesFit (a .names) (a .lengths)) (apart (a .names) (a .propositions)) n₁;
         pairs = and-right (bytesFit (a .names) (a .lengths)) (apart (a .names) (a .propositions)) n₁;
@@ -67,8 +60,8 @@ module _ (a : Automaton) where
   passing P = and-true
       (and-true (le-leb _ _ (P .states-le)) (and-true (lt-ltb _ _ (P .start-lt)) (and-true (le-leb _ _ (P .propositions-le)) (le-leb _ _ (P .sets-le)))))
       (and-true (and-true
-      (subst (λ L. filled (a .states) L (a .states) (a .destinations) ≡ true) (sym (power-is (a .propositions) (P .propositions-le))) (P .destinations))
-      (subst₂ (λ L c. filled (a .states) L c (a .marks) ≡ true) (sym (power-is (a .propositions) (P .propositions-le))) (sym (power-is (a .sets) (P .sets-le))) (P .marks)))
+      (subst (λ L. filled (a .states) L (a .states) (a .destinations) ≡ true) (sym (power-is (P .propositions-le) refl)) (P .destinations))
+      (subst₂ (λ L c. filled (a .states) L c (a .marks) ≡ true) (sym (power-is (P .propositions-le) refl)) (sym (power-is (P .sets-le) refl)) (P .marks)))
       (and-true (P .lengths) (and-true (P .bytes) (P .pairs))))
 
   pub fits-valid : length (a .lengths) ≡ 4 → length (a .names) ≡ 64 → length (a .destinations) ≡ 256 → length (a .marks) ≡ 256 → fits a ≡ true → Valid a
@@ -101,7 +94,7 @@ module _ (a : Automaton) where
       P = passed h
 
       most : letters a ≤ 16
-      most = power-le (a .propositions) (P .propositions-le)
+      most = power-le (P .propositions-le)
 
       name-le : (i : ℕ) → i < a .propositions → nameLength a i ≤ 16
       name-le i hi = length-le (a .propositions) (a .lengths) (P .lengths) i (omega (arith, P .propositions-le)) hi

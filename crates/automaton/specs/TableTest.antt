@@ -1,5 +1,5 @@
 -- The test of a table, by state and letter.
-use mathlib.Core.Path.{_≡_, refl, sym, ap, _∙_, subst}
+use mathlib.Core.Path.{_≡_, subst}
 use mathlib.Core.Logic.{_⊎_, inl, inr}
 use mathlib.Core.Bool.{true}
 use mathlib.Core.List.{List}
@@ -7,9 +7,11 @@ use Prim.Native.Nat.{ℕ, _+_, _*_, _/_, _%_, _≤_, _<_}
 use native.Mathlib.Decide.{decLt}
 use native.Mathlib.Omega.{arith}
 use borrow.Author.Tests.{lt-ltb, le-ltb, eq-eqb, ltb-true, eqb-true}
+use lib.Arith.{digits-div, digits-mod}
 use lib.ListN.{getD}
+use Rattle.automaton.specs.Rows.{place}
 use Rattle.automaton.specs.Tests.{entryFits, filled}
-use Rattle.automaton.proofs.Laws.{passes-at, passes-of}
+use Rattle.automaton.specs.Passes.{passes-at, passes-of}
 
 module _ (n L c i v : ℕ) where
   entry-below : entryFits n L c i v ≡ true → i / 16 < n → i % 16 < L → v < c
@@ -31,12 +33,6 @@ module _ (n L c i v : ℕ) where
       go (yes hq) (no hl) = let g : L ≤ i % 16 = omega arith in rw (lt-ltb _ _ hq, le-ltb _ _ g) (eq-eqb _ _ (zero (inr g)))
       go (no hq) d = let g : n ≤ i / 16 = omega arith in rw (le-ltb _ _ g) (eq-eqb _ _ (zero (inl g)))
 
-row : (q l : ℕ) → l < 16 → (q * 16 + l) / 16 ≡ q
-row q l h = omega arith
-
-column : (q l : ℕ) → l < 16 → (q * 16 + l) % 16 ≡ l
-column q l h = omega arith
-
 module _ (n L c : ℕ) (xs : List ℕ) where
   abbrev at : ℕ → ℕ → ℕ
   at q l = getD xs (q * 16 + l) 0
@@ -44,16 +40,13 @@ module _ (n L c : ℕ) (xs : List ℕ) where
   pub filled-below : filled n L c xs ≡ true → n ≤ 16 → L ≤ 16 → (q l : ℕ) → q < n → l < L → at q l < c
   filled-below h hn hL q l hq hl =
       let g : l < 16 = omega arith in
-      entry-below n L c (q * 16 + l) (at q l) (passes-at 256 _ h (q * 16 + l) (omega arith)) (rw (row q l g) hq) (rw (column q l g) hl)
+      entry-below n L c (q * 16 + l) (at q l) (passes-at 256 _ h (q * 16 + l) (omega arith)) (rw (digits-div q g) hq) (rw (digits-mod q g) hl)
 
   pub filled-zero : filled n L c xs ≡ true → (q l : ℕ) → q < 16 → l < 16 → (n ≤ q) ⊎ (L ≤ l) → at q l ≡ 0
   filled-zero h q l hq hl u =
-      entry-zero n L c (q * 16 + l) (at q l) (passes-at 256 _ h (q * 16 + l) (omega arith)) (rw (row q l hl, column q l hl) u)
+      entry-zero n L c (q * 16 + l) (at q l) (passes-at 256 _ h (q * 16 + l) (omega arith)) (rw (digits-div q hl, digits-mod q hl) u)
 
   pub filled-of : ((q l : ℕ) → q < n → l < L → at q l < c) → ((q l : ℕ) → q < 16 → l < 16 → (n ≤ q) ⊎ (L ≤ l) → at q l ≡ 0) → filled n L c xs ≡ true
   filled-of below zero = passes-of 256 _ (λ i h. entry-of n L c i (getD xs i 0)
       (λ hq hl. subst (λ k. getD xs k 0 < c) (place i) (below (i / 16) (i % 16) hq hl))
       (λ u. subst (λ k. getD xs k 0 ≡ 0) (place i) (zero (i / 16) (i % 16) (omega arith) (omega arith) u)))
-    where
-      place : (i : ℕ) → i / 16 * 16 + i % 16 ≡ i
-      place i = omega arith

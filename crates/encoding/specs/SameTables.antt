@@ -1,20 +1,16 @@
 -- Tables that are the same accept the same words, and agree with the same automata.
-use mathlib.Core.Path.{_≡_, refl, sym, ap, ap₂, _∙_, subst}
+use mathlib.Core.Path.{_≡_, sym, ap, ap₂, _∙_, subst}
 use mathlib.Core.Logic.{inl, inr}
-use mathlib.Core.Bool.{Bool, _&&_, _||_}
+use mathlib.Core.Bool.{Bool, _&&_}
 use mathlib.Core.List.{List}
 use Prim.Native.Nat.{ℕ, zero, suc, _<_}
 use native.Mathlib.Omega.{arith}
-use Rattle.meaning.specs.Tests.{any}
+use Rattle.meaning.specs.Tests.{any, any-same}
 use Rattle.meaning.specs.Automata.{Aut, WellFormed, Word, Accepts, state, union}
 use Rattle.meaning.specs.Agreement.{Over, Agree, AgreeOn, lasso}
 use Rattle.meaning.specs.LassoWord.{lasso-over}
 use Rattle.meaning.specs.Run.{state-lt}
 use Rattle.encoding.specs.Clauses.{SameTable}
-
-any-same : (n : ℕ) (f g : ℕ → Bool) → ((i : ℕ) → i < n → f i ≡ g i) → any n f ≡ any n g
-any-same zero f g h = refl
-any-same (suc n) f g h = ap₂ _||_ (h n (omega arith)) (any-same n f g (λ i k. h i (omega arith)))
 
 pub same-turned : {A B : Aut} → SameTable A B → SameTable B A
 same-turned s = record {

@@ -1,4 +1,0 @@
-pub mod Laws
-pub mod TableTest
-pub mod NameTest
-pub mod Meant
