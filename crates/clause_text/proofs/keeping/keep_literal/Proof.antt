@@ -6,7 +6,7 @@ use mir.Val.{toZ, ofZ}
 use Rattle.decimal.specs.Wrote.{Wrote}
 use Rattle.clause_text.specs.Pieces.{spacedText}
 use Rattle.clause_text.specs.Blocks.{signed}
-use Rattle.clause_text.proofs.Signs.{stored}
+use Rattle.clause_list.proofs.Laws.{stored}
 use Rattle.clause_text.proofs.Literals.{signed-le}
 use borrow.Author.Needs.{needs}
 use native.Mathlib.Omega.{arith}

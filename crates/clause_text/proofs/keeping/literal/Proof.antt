@@ -1,6 +1,6 @@
 -- `literal` meets its contract.
 use mathlib.Core.Path.{sym, ap, _∙_}
-use Rattle.clause_text.proofs.Signs.{stored}
+use Rattle.clause_list.proofs.Laws.{stored}
 use borrow.Author.Needs.{needs}
 use Rattle.clause_text.specs.Blocks.{signed}
 use Rattle.clause_text.proofs.keeping.literal.Statement.{statement}

@@ -7,7 +7,7 @@ use lib.ListN.{getD, take, drop, length-append}
 use Rattle.decimal.specs.Wrote.{Wrote}
 use Rattle.decimal.specs.Writing.{wrote-length}
 use Rattle.clause_text.specs.Pieces.{spacedText}
-use Rattle.clause_text.proofs.Signs.{stored}
+use Rattle.clause_list.proofs.Laws.{stored}
 use Rattle.clause_text.proofs.Spelling.{Spelled, spelled-none, spelled-room, spelled-then, spelled-as, spelled-all, spaced-from, spaced-end}
 use native.Mathlib.Omega.{arith}
 use Rattle.clause_text.proofs.writing.write_literals.Statement.{statement}
