@@ -20,7 +20,8 @@ fn main() {
     if os::arg_count() != 2 {
         return usage();
     }
-    let Number::Of(rounds) = input::number(1) else {
+    let mut word = io::buffer();
+    let Number::Of(rounds) = input::number(1, &mut word) else {
         return usage();
     };
     let mut texts = [0u8; hoa_read::TEXT];

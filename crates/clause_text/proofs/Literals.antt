@@ -1,5 +1,5 @@
 -- The slots of literals: their numbers, their texts, one more that is kept, and one that is copied.
-use mathlib.Core.Path.{_≡_, sym, ap, ap₂, _∙_, subst}
+use mathlib.Core.Path.{_≡_, sym, ap, ap₂, _∙_}
 use mathlib.Core.Bool.{Bool, true, false}
 use mathlib.Core.List.{List, [], _∷_}
 use Prim.Native.Nat.{ℕ, _+_, _*_, _^_, _≤_, _<_}
@@ -23,7 +23,7 @@ use Rattle.clause_text.specs.LineLength.{literal-le, abs-negated}
 use Rattle.clause_text.specs.Pieces.{spacedText}
 use Rattle.clause_text.specs.Blocks.{signed, pathLiteral, middleOf, pathSlot, pathTexts, middleSlot, middleTexts}
 use Rattle.clause_text.specs.Kept.{Kept, Found}
-use Rattle.clause_text.proofs.Slots.{kept-more, found-text}
+use Rattle.clause_text.proofs.Slots.{text-kept}
 
 module _ (z : Sizes) where
   abbrev M : ℕ
@@ -86,16 +86,8 @@ module _ {z : Sizes} (f : Fitting z) (minus : Bool) {q u p v I J slot : ℕ} (he
 
   pub path-kept : {variable r : ℕ} {kept sizes g : List ℕ} → Numbered z (path q u p v I J) variable → Kept (pathTexts z minus q u p) 16 4096 kept sizes
       → Wrote kept (slot * 16) (spacedText (signed minus variable ∷ [])) g (slot * 16 + r) → Found (pathTexts z minus q u p) 16 4096 g (set sizes slot r) slot r
-  path-kept {variable} {r} {kept} {g} num s w =
-      let same : spacedText (signed minus variable ∷ []) ≡ pathTexts z minus q u p slot = ap (λ k. spacedText (signed minus k ∷ [])) (num .is) ∙ sym slot-text in
-      kept-more s slot-lt (omega (arith, ap length same, signed-le minus variable (num .small))) (subst (λ t. Wrote kept (slot * 16) t g (slot * 16 + r)) same w)
-
-  module _ {kept sizes : List ℕ} {size : ℕ} (s : Found (pathTexts z minus q u p) 16 4096 kept sizes slot size) where
-    pub path-size : size ≡ length (spacedText (pathLiteral z minus q u p v I J ∷ []))
-    path-size = s .size ∙ ap length slot-text
-
-    pub path-copied : {d e : List ℕ} {at r : ℕ} → Wrote d at (take size (drop (slot * 16) kept)) e r → Wrote d at (spacedText (pathLiteral z minus q u p v I J ∷ [])) e r
-    path-copied {d} {e} {at} {r} w = subst (λ t. Wrote d at t e r) (found-text s ∙ slot-text) w
+  path-kept {variable} num s w =
+      text-kept (slot-text ∙ ap (λ k. spacedText (signed minus k ∷ [])) (sym (num .is))) s slot-lt (omega (arith, signed-le minus variable (num .small))) w
 
 module _ {z : Sizes} (f : Fitting z) {x : Indices} {slot : ℕ} (h : Within z x) (is : slot ≡ middleSlot z (x .l) (x .k)) where
   pub middle-lt : slot < 256
@@ -103,15 +95,3 @@ module _ {z : Sizes} (f : Fitting z) {x : Indices} {slot : ℕ} (h : Within z x)
 
   pub middle-slot-text : middleTexts z (x .p .0) (x .t .0) slot ≡ spacedText (middleOf z (x .p .0) (x .t .0) (x .l) (x .k))
   middle-slot-text = ap (middleTexts z (x .p .0) (x .t .0)) is ∙ middle-text z (x .p .0) (x .t .0) (x .l) (x .k) (h .k-lt)
-
-  pub middle-kept : {r : ℕ} {kept sizes g : List ℕ} → length (spacedText (middleOf z (x .p .0) (x .t .0) (x .l) (x .k))) ≤ 80 → Kept (middleTexts z (x .p .0) (x .t .0)) 80 256 kept sizes
-      → Wrote kept (slot * 80) (spacedText (middleOf z (x .p .0) (x .t .0) (x .l) (x .k))) g (slot * 80 + r) → Found (middleTexts z (x .p .0) (x .t .0)) 80 256 g (set sizes slot r) slot r
-  middle-kept {r} {kept} {g} short s w =
-      kept-more s middle-lt (omega (arith, ap length middle-slot-text, short)) (subst (λ t. Wrote kept (slot * 80) t g (slot * 80 + r)) (sym middle-slot-text) w)
-
-  module _ {kept sizes : List ℕ} {size : ℕ} (s : Found (middleTexts z (x .p .0) (x .t .0)) 80 256 kept sizes slot size) where
-    pub middle-size : size ≡ length (spacedText (middleOf z (x .p .0) (x .t .0) (x .l) (x .k)))
-    middle-size = s .size ∙ ap length middle-slot-text
-
-    pub middle-copied : {d e : List ℕ} {at r : ℕ} → Wrote d at (take size (drop (slot * 80) kept)) e r → Wrote d at (spacedText (middleOf z (x .p .0) (x .t .0) (x .l) (x .k))) e r
-    middle-copied {d} {e} {at} {r} w = subst (λ t. Wrote d at t e r) (found-text s ∙ middle-slot-text) w

@@ -1,5 +1,5 @@
 -- Texts in slots: none is there, one more is kept, and one is read back.
-use mathlib.Core.Path.{_≡_, refl, ap, _∙_, subst}
+use mathlib.Core.Path.{_≡_, refl, sym, ap, _∙_, subst}
 use mathlib.Core.Logic.{_⊎_, inl, inr, _≢_}
 use mathlib.Core.Bool.{Bool, true, false}
 use mathlib.Core.List.{List}
@@ -70,9 +70,19 @@ module _ {textOf : ℕ → List ℕ} {width count : ℕ} where
               let same : k ≡ j = omega (arith, ltb-false j k e, ltb-false k j g) in
               inr (subst (Slot textOf width f (set sizes k r)) same here)
 
-  -- what stands in a slot, as it is copied
-  pub found-text : {kept sizes : List ℕ} {k r : ℕ} → Found textOf width count kept sizes k r → take r (drop (k * width) kept) ≡ textOf k
-  found-text {kept} {k} s = ap (λ n. take n (drop (k * width) kept)) (s .size) ∙ s .slot .text
-
   pub found-room : {kept sizes : List ℕ} {k r : ℕ} → Found textOf width count kept sizes k r → k < count → length kept ≡ count * width → k * width + r ≤ length kept
   found-room {k} s h g = omega (arith, s .size, s .slot .fits, mul-le-mul {n₁ = k + 1} {m₁ = width} {n₂ = count} {m₂ = width} (omega arith) (omega arith))
+
+  -- ---- a slot that is for the text t
+
+  module _ {k : ℕ} {t : List ℕ} (is : textOf k ≡ t) where
+    pub text-kept : {kept sizes f : List ℕ} {r : ℕ} → Kept textOf width count kept sizes → k < count → length t ≤ width → Wrote kept (k * width) t f (k * width + r)
+        → Found textOf width count f (set sizes k r) k r
+    text-kept {kept} {f} {r} s h fits w = kept-more s h (omega (arith, ap length is)) (subst (λ t. Wrote kept (k * width) t f (k * width + r)) (sym is) w)
+
+    module _ {kept sizes : List ℕ} {r : ℕ} (s : Found textOf width count kept sizes k r) where
+      pub text-size : r ≡ length t
+      text-size = s .size ∙ ap length is
+
+      pub text-copied : {d e : List ℕ} {at end : ℕ} → Wrote d at (take r (drop (k * width) kept)) e end → Wrote d at t e end
+      text-copied {d} {e} {at} {end} w = subst (λ t. Wrote d at t e end) (ap (λ n. take n (drop (k * width) kept)) (s .size) ∙ s .slot .text ∙ is) w

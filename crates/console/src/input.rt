@@ -29,41 +29,39 @@ pub struct Given {
     pub automaton: Automaton,
 }
 
-// The automaton on standard input.
-pub fn from_input() -> Given
-    ensures { λ r. ⌜ FromText r ⌝ }
+// The automaton on standard input, whose text is read into the buffer.
+pub fn from_input(text: &mut [u8]) -> Given
+    ensures { λ r. ⌜ FromText (now (text .exit)) r ⌝ }
 {
-    let mut text = [0u8; TEXT];
-    let got = read_input(&mut text);
+    let got = read_input(text);
     if !got.whole {
         return none();
     }
     let length = got.length;
-    judge(b"standard input", &text, length)
+    judge(b"standard input", text, length)
 }
 
 // The automaton in the file that an argument names.
-pub fn from_argument(i: usize) -> Given
-    ensures { λ r. ⌜ FromText r ⌝ }
+pub fn from_argument(i: usize, text: &mut [u8]) -> Given
+    ensures { λ r. ⌜ FromText (now (text .exit)) r ⌝ }
 {
     let mut path = io::buffer();
     let got = argument(i, &mut path);
     if !got.whole {
         return none();
     }
-    from_file(first(&path, got.length))
+    from_file(first(&path, got.length), text)
 }
 
-fn from_file(path: &[u8]) -> Given
-    ensures { λ r. ⌜ FromText r ⌝ }
+fn from_file(path: &[u8], text: &mut [u8]) -> Given
+    ensures { λ r. ⌜ FromText (now (text .exit)) r ⌝ }
 {
-    let mut text = [0u8; TEXT];
-    let got = read_file(path, &mut text);
+    let got = read_file(path, text);
     if !got.whole {
         return none();
     }
     let length = got.length;
-    judge(path, &text, length)
+    judge(path, text, length)
 }
 
 // The automaton in the first bytes of a buffer.
@@ -101,16 +99,15 @@ fn none() -> Given
     }
 }
 
-// A number among the arguments.
-pub fn number(i: usize) -> Number
-    ensures { λ r. ⌜ FromWord r ⌝ }
+// A number among the arguments, which is read into the buffer as a word.
+pub fn number(i: usize, word: &mut [u8]) -> Number
+    ensures { λ r. ⌜ FromWord (now (word .exit)) r ⌝ }
 {
-    let mut word = io::buffer();
-    let got = argument(i, &mut word);
+    let got = argument(i, word);
     if !got.whole {
         return Number::None;
     }
-    parse(first(&word, got.length))
+    parse(first(word, got.length))
 }
 
 // An argument, as it was given.

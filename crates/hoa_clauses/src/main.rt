@@ -5,6 +5,7 @@ use clauses::Answer;
 use clauses::header::Totals;
 use clauses::header::header;
 use console::input;
+use console::input::TEXT;
 use console::output;
 use numerals::Number;
 use report::lines::LINE;
@@ -18,13 +19,15 @@ fn main() {
     if os::arg_count() != 3 {
         return usage();
     }
-    let Number::Of(n) = input::number(1) else {
+    let mut word = io::buffer();
+    let Number::Of(n) = input::number(1, &mut word) else {
         return usage();
     };
-    let Number::Of(m) = input::number(2) else {
+    let Number::Of(m) = input::number(2, &mut word) else {
         return usage();
     };
-    let given = input::from_input();
+    let mut text = [0u8; TEXT];
+    let given = input::from_input(&mut text);
     if !given.accepted {
         return;
     }

@@ -3,6 +3,7 @@ use automaton::Automaton;
 use automaton::refusal::Refusal;
 use compare::Comparison;
 use console::input;
+use console::input::TEXT;
 use console::output;
 use decode::Answer;
 use libc::STDIN_FILENO;
@@ -13,13 +14,15 @@ fn main() {
     if os::arg_count() != 4 {
         return usage();
     }
-    let Number::Of(n) = input::number(2) else {
+    let mut word = io::buffer();
+    let Number::Of(n) = input::number(2, &mut word) else {
         return usage();
     };
-    let Number::Of(m) = input::number(3) else {
+    let Number::Of(m) = input::number(3, &mut word) else {
         return usage();
     };
-    let given = input::from_argument(1);
+    let mut text = [0u8; TEXT];
+    let given = input::from_argument(1, &mut text);
     if !given.accepted {
         return;
     }

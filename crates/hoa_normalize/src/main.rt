@@ -1,5 +1,6 @@
 // Prints the automaton on standard input as document 01 writes it.
 use console::input;
+use console::input::TEXT;
 use console::output;
 
 fn main() {
@@ -7,7 +8,8 @@ fn main() {
         output::usage(b"hoa_normalize < FILE");
         return;
     }
-    let given = input::from_input();
+    let mut text = [0u8; TEXT];
+    let given = input::from_input(&mut text);
     if !given.accepted {
         return;
     }

@@ -3,6 +3,7 @@ use automaton::Automaton;
 use automaton::refusal::Refusal;
 use compare::Comparison;
 use console::input;
+use console::input::TEXT;
 use console::output;
 use decode::Decoded;
 use report::lines::LINE;
@@ -17,7 +18,8 @@ fn main() {
         output::usage(b"hoa_search REFERENCE [ANSWER-FILE ..]");
         return;
     }
-    let given = input::from_argument(1);
+    let mut text = [0u8; TEXT];
+    let given = input::from_argument(1, &mut text);
     if !given.accepted {
         return;
     }

@@ -1,7 +1,7 @@
 -- `middle_in_slot` meets its contract.
 use mathlib.Core.Path.{_∙_}
-use Rattle.clause_text.proofs.Slots.{kept-found}
-use Rattle.clause_text.proofs.Literals.{middle-lt, middle-kept}
+use Rattle.clause_text.proofs.Slots.{kept-found, text-kept}
+use Rattle.clause_text.proofs.Literals.{middle-lt, middle-slot-text}
 use native.Mathlib.Omega.{arith}
 use Rattle.clause_text.proofs.keeping.middle_in_slot.Statement.{statement}
 use Rattle.clause_text.proofs.keeping.middle_in_slot.Tie as tie
@@ -33,7 +33,7 @@ wide-requires-2 c κs = tt
 returns-2 : tie.Need-returns-2
 returns-2 c =
     let s = c .before .before .before .before .before in
-    let found = middle-kept (s .pre .0 .0) (s .pre .0 .1) (s .pre .0 .2) (s .pre .1 .1) (s .pre .1 .0) (c .before .keep-middle .ensures) in
+    let found = text-kept (middle-slot-text (s .pre .0 .0) (s .pre .0 .1) (s .pre .0 .2)) (s .pre .1 .0) (middle-lt (s .pre .0 .0) (s .pre .0 .1) (s .pre .0 .2)) (s .pre .1 .1) (c .before .keep-middle .ensures) in
     record { all = found .all; slot = found .slot; size = c .wide2 .ensures ∙ found .size }
 
 pub middle-in-slot-spec : {M : Type 1} → statement M

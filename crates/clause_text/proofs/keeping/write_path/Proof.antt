@@ -1,6 +1,6 @@
 -- `write_path` meets its contract.
-use Rattle.clause_text.proofs.Slots.{found-room}
-use Rattle.clause_text.proofs.Literals.{path-slot-is, states-le, sets-le, slot-lt, path-size, path-copied}
+use Rattle.clause_text.proofs.Slots.{found-room, text-size, text-copied}
+use Rattle.clause_text.proofs.Literals.{path-slot-is, states-le, sets-le, slot-lt, slot-text}
 use Prim.Native.Nat.{_+_, _*_}
 use Rattle.variables.specs.Limits.{candidate-subsets-le}
 use borrow.Author.Needs.{needs}
@@ -35,7 +35,7 @@ copy-requires c κs =
     let s = c .before .before .before .before .before .before .before .before .before .before in
     let is = path-slot-is (s .args .z) (s .pre .0 .0) (s .args .v .0) (s .args .i) (s .args .j) in
     let found = c .before .before .before .path-in-slot .ensures in
-    (found-room found (slot-lt (s .pre .0 .0) (s .args .minus) (s .pre .0 .1) is) (c .before .copy-arg2 .given .0), omega (arith, path-size (s .pre .0 .0) (s .args .minus) (s .pre .0 .1) is found, s .pre .1 .1))
+    (found-room found (slot-lt (s .pre .0 .0) (s .args .minus) (s .pre .0 .1) is) (c .before .copy-arg2 .given .0), omega (arith, text-size (slot-text (s .pre .0 .0) (s .args .minus) (s .pre .0 .1) is) found, s .pre .1 .1))
 
 same-length : tie.Need-same-length
 same-length c = search needs
@@ -45,7 +45,7 @@ returns c =
     let s = c .before .before .before .before .before .before .before .before .before .before .before .before .before in
     let is = path-slot-is (s .args .z) (s .pre .0 .0) (s .args .v .0) (s .args .i) (s .args .j) in
     let found = c .before .before .before .before .before .before .path-in-slot .ensures in
-    (found .all, path-copied (s .pre .0 .0) (s .args .minus) (s .pre .0 .1) is found (c .before .before .copy .ensures))
+    (found .all, text-copied (slot-text (s .pre .0 .0) (s .args .minus) (s .pre .0 .1) is) found (c .before .before .copy .ensures))
 
 pub write-path-spec : {M : Type 1} → statement M
 write-path-spec =

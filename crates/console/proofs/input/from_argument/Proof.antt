@@ -28,6 +28,9 @@ first-requires c κs = search needs
 from-file-requires : tie.Need-from-file-requires
 from-file-requires c κs = search needs
 
+same-length : tie.Need-same-length
+same-length c = search needs
+
 returns-2 : tie.Need-returns-2
 returns-2 c = search needs
 
@@ -43,4 +46,5 @@ from-argument-spec =
     slice-aggregate-first
     first-requires
     from-file-requires
+    same-length
     returns-2)

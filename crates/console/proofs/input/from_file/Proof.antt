@@ -4,35 +4,35 @@ use borrow.Author.Needs.{needs}
 use Rattle.console.proofs.input.from_file.Statement.{statement}
 use Rattle.console.proofs.input.from_file.Tie as tie
 
-slice-aggregate-read-file : tie.Need-slice-aggregate-read-file
-slice-aggregate-read-file c = search needs
-
 read-file-requires : tie.Need-read-file-requires
 read-file-requires c κs = search needs
 
 none-requires : tie.Need-none-requires
 none-requires c κs = search needs
 
+same-length : tie.Need-same-length
+same-length c = search needs
+
 returns : tie.Need-returns
 returns c = unread (c .none .ensures)
-
-slice-aggregate-judge : tie.Need-slice-aggregate-judge
-slice-aggregate-judge c = search needs
 
 judge-requires : tie.Need-judge-requires
 judge-requires c κs = search needs
 
+same-length-2 : tie.Need-same-length-2
+same-length-2 c = search needs
+
 returns-2 : tie.Need-returns-2
-returns-2 c = text _ (c .judge .ensures)
+returns-2 c = text _ (c .before .before .before .before .before .before .read-file .ensures) (c .judge .ensures)
 
 pub from-file-spec : {M : Type 1} → statement M
 from-file-spec =
     tie.close
     (tie.spec
-    slice-aggregate-read-file
     read-file-requires
     none-requires
+    same-length
     returns
-    slice-aggregate-judge
     judge-requires
+    same-length-2
     returns-2)
