@@ -26,7 +26,7 @@ module _ (z : Sizes) where
   abbrev S : ℕ
   S = 2 ^ z .reference .sets
 
-  -- the position with the sets I, J and K in the a-th part of so many
+  -- the position with the sets I, J and K in part a of group 3, where a part has all other indices alike
   abbrev at-sets : (a I J K : ℕ) → ℕ
   at-sets a I J K = ((a * M + I) * S + J) * M + K
 
