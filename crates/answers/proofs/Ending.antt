@@ -1,5 +1,6 @@
 -- What is told at the end of the text, and the place of its refusal.
 use mathlib.Core.Path.{_≡_, sym, ap, _∙_, subst}
+use mathlib.Core.Bool.{false}
 use mathlib.Core.List.{List, []}
 use Prim.Native.Nat.{ℕ, _≤_}
 use native.Mathlib.Omega.{arith}
@@ -7,18 +8,20 @@ use Rattle.automaton.specs.declared.Automaton.{Automaton}
 use Rattle.automaton.specs.declared.refusal.Refusal.{Refusal}
 use Rattle.automaton.specs.declared.refusal.Refusal.the-variants.{SolverForm, Literal}
 use Rattle.automaton.specs.Refused.{codeOf}
-use Rattle.solution.specs.Machine.{refusedAt}
-use Rattle.solution.specs.Calls.{last, kept}
+use Rattle.solution.specs.Machine.{fresh, refusedAt}
+use Rattle.solution.specs.Calls.{Reads, joined, last, kept}
+use Rattle.solution.specs.Staying.{refused-end}
 use Rattle.solution.specs.Cases.{by}
-use Rattle.solution.specs.Pieces.{joined}
 use Rattle.decode.specs.declared.Answer.the-variants.{Refused as TurnedDown}
 use Rattle.decode.specs.Answers.{Decodes}
 use Rattle.text_places.specs.Places.{within, placeOf}
 use Rattle.answers.specs.declared.Heard.{Heard}
 use Rattle.answers.specs.declared.Told.{Told}
-use Rattle.answers.specs.FromPieces.{FromPieces}
-use Rattle.answers.specs.SoFar.{SoFar, endedAt}
-use Rattle.answers.proofs.Offsets.{Counted, From, end-stays, end-from}
+use Rattle.answers.specs.FromPieces.{Refuses, FromPieces}
+use Rattle.answers.specs.Bringing.{Last, brought-all, last-refused}
+use Rattle.answers.specs.SoFar.{SoFar, Closed, endedAt}
+use Rattle.answers.proofs.Closing.{closed-refusal}
+use Rattle.answers.proofs.Offsets.{Counted, From, end-from}
 use Rattle.answers.proofs.Places.{place-stable, place-end, from-end, within-again}
 use Rattle.answers.proofs.Answered.{ByText, by-text}
 use Rattle.answers.proofs.Further.{counted}
@@ -38,7 +41,7 @@ module _ {a : Automaton} {n m : ℕ} {h : Heard} (s : SoFar a n m h) {p p′ l l
       let start = ap (λ q. within q [] o) (s .placed (b .valid) (b .sizes)) in
       by (refusedAt (h .reader .scan .place))
       (λ g.
-      let same : at ≡ o = sym (b .offset ∙ ap (λ x. x .scan .at) (end-stays (last a n m) (kept a n m) (h .reader) g)) in
+      let same : at ≡ o = sym (b .offset ∙ ap (λ x. x .scan .at) (refused-end (last a n m) (kept a n m) (h .reader) g)) in
       start ∙ ap (λ q. within (placeOf text q) [] o) same ∙ within-again text o (omega (arith, same, c .inside)) (omega (arith, same, c .limit)))
       (λ g.
       let from : From text o = subst (From text) (sym (b .offset)) (end-from (last a n m) (kept a n m) text (h .reader) c g) in
@@ -51,12 +54,22 @@ module _ {a : Automaton} {n m : ℕ} {h : Heard} (s : SoFar a n m h) {p p′ l l
       place-stable _ _ (λ never. by-text d f is low high (λ b.
       never (e ∙ ap (λ w. endedAt w (h .place) u) is ∙ ap (λ v. within (h .place) v (codeOf f .first)) nil ∙ ended-place f b)))
 
-  pub told-pieces : FromPieces p p′ l l′ t a n m
-  told-pieces = record {
-    pieces = s .pieces;
+  -- the pieces that were brought make up the same text
+  brought-place : (f : Refusal) → 9 ≤ codeOf f .number → codeOf f .number ≤ 10 → t .decoded .answer ≡ TurnedDown f
+      → t .place ≡ placeOf (joined (s .brought-pieces)) (codeOf f .first)
+  brought-place f low high is = told-place f low high is ∙ ap (λ ps. placeOf (joined ps) (codeOf f .first)) (s .empty-first)
+
+  refuses : Closed a n m (h .reader) → Refuses t
+  refuses c = let (f, e) = closed-refusal d c in record { refusal = f; is = e }
+
+  pub told-pieces : h .more ≡ false → t .whole ≡ h .whole → FromPieces p p′ l l′ t a n m
+  told-pieces over same = record {
+    pieces = s .brought-pieces;
+    answers = _;
+    brought = brought-all (s .brought) (last-refused refuses (subst (Last _) (sym same) (s .last over)));
     reader = h .reader;
-    reads = s .reads;
+    reads = subst (λ ps. Reads a n m fresh ps (h .reader)) (s .empty-first) (s .reads);
     decodes = d;
-    form-place = λ o. told-place (SolverForm o) (omega arith) (omega arith);
-    literal-place = λ o. told-place (Literal o) (omega arith) (omega arith);
+    form-place = λ o. brought-place (SolverForm o) (omega arith) (omega arith);
+    literal-place = λ o. brought-place (Literal o) (omega arith) (omega arith);
   }

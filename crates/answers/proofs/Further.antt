@@ -5,6 +5,7 @@ use mathlib.Core.List.{List, [], _∷_, _++_}
 use Prim.Native.Nat.{ℕ, _+_, _-_, _≤_, _<_}
 use native.Mathlib.Decide.{decLt}
 use native.Mathlib.Omega.{arith}
+use lib.IntN.{ℤ}
 use lib.ListN.{length, length-append}
 use Rattle.automaton.specs.declared.Automaton.{Automaton}
 use Rattle.automaton.specs.declared.refusal.Refusal.{Refusal}
@@ -16,15 +17,17 @@ use Rattle.solution.specs.declared.Reply.{Reply}
 use Rattle.solution.specs.declared.Answer.{Answer}
 use Rattle.solution.specs.declared.Answer.the-variants.{Accepted, Refused}
 use Rattle.solution.specs.Machine.{fresh, told, run, refusedAt}
-use Rattle.solution.specs.Calls.{InRange, Called, Reads, none, last, kept}
+use Rattle.solution.specs.Calls.{InRange, Called, Reads, none, joined, last, kept}
 use Rattle.solution.specs.Cases.{by}
-use Rattle.solution.specs.Pieces.{joined, pieces, fresh-range}
+use Rattle.solution.specs.Pieces.{pieces, fresh-range}
 use Rattle.solution.specs.Range.{run-kept}
 use Rattle.solution.specs.Further.{reads-more, joined-more}
 use Rattle.text_places.specs.declared.Place.{Place}
 use Rattle.text_places.specs.Places.{first, after, within, placeOf}
 use Rattle.answers.specs.declared.Heard.{Heard}
-use Rattle.answers.specs.SoFar.{Hears, Goes, ends, goes, SoFar, heardOf}
+use Rattle.answers.specs.FromPieces.{early}
+use Rattle.answers.specs.Bringing.{Brought, none as no-piece, brought-more, last-refused}
+use Rattle.answers.specs.SoFar.{Hears, Goes, ends, goes, SoFar, Closed, heardOf}
 use Rattle.answers.proofs.Offsets.{Counted, From, fresh-counted, run-counted, run-from}
 use Rattle.answers.proofs.Places.{place-end, place-more, from-within}
 use Rattle.answers.proofs.Replies.{accepted-refused, offset-refused, unrefused}
@@ -72,6 +75,10 @@ module _ {a : Automaton} {n m : ℕ} where
       next-counted : Counted (joined us ++ u) (next .scan)
       next-counted = run-counted (last a n m) (kept a n m) (joined us) r u (counted v z k)
 
+      -- a refused reading stays refused
+      now-refused : {x : Refusal} → e .answer ≡ Refused x → refusedAt (e .reader .scan .place) ≡ true
+      now-refused {x} f = ap (λ y. refusedAt (y .reader .scan .place)) reply-is ∙ offset-refused _ _ x (sym (ap (λ y. y .answer) reply-is) ∙ f) .0
+
       still-placed : (w : Answer) → e .answer ≡ w → heardOf p u w (e .reader) .place ≡ placeOf (joined us ++ u) (e .reader .scan .at)
       still-placed Accepted f =
           let o : next .scan .at ≡ length (joined us ++ u) = next-counted .all (unrefused _ _ (sym (ap (λ y. y .answer) reply-is) ∙ f)) in
@@ -89,10 +96,14 @@ module _ {a : Automaton} {n m : ℕ} where
           let o : next .scan .at ≡ length (joined us ++ u) = next-counted .all (unrefused _ _ (sym (ap (λ y. y .answer) reply-is) ∙ f)) in
           (omega (arith, at, o, length-append (joined us) u, counted v z k .all (clean v z)), omega (arith, at, next-counted .limit))
 
-  heard-more : {us : List (List ℕ)} {r : Reader} {p : Place} {h : Heard} (u : List ℕ) → Reads a n m fresh us r
+    closed : {x : Refusal} → e .answer ≡ Refused x → Closed a n m (e .reader)
+    closed f v z = now-refused v z f
+
+  heard-more : {us vs : List (List ℕ)} {r : Reader} {p : Place} {h : Heard} {answers : List ℤ} (u : List ℕ) → us ++ (u ∷ []) ≡ [] ∷ vs → Brought answers vs
+      → Reads a n m fresh us r
       → (Valid a → Dimensioned n m → refusedAt (r .scan .place) ≡ false) → (Valid a → Dimensioned n m → p ≡ placeOf (joined us) (r .scan .at))
       → Hears a n m r p u h → SoFar a n m h
-  heard-more {us} {r} {p} {h} u k clean placed c = subst (SoFar a n m) (sym (c .is)) (go (c .reply .answer) refl)
+  heard-more {us} {vs} {r} {p} {h} {answers} u first-empty b k clean placed c = subst (SoFar a n m) (sym (c .is)) (go (c .reply .answer) refl)
     where
       e : Reply
       e = c .reply
@@ -100,12 +111,22 @@ module _ {a : Automaton} {n m : ℕ} where
       go : (w : Answer) → c .reply .answer ≡ w → SoFar a n m (heardOf p u w (c .reply .reader))
       go Accepted f = record {
         pieces = us ++ (u ∷ []);
+        brought-pieces = vs;
+        empty-first = first-empty;
+        answers = answers;
+        brought = b;
+        last = λ g. absurd (true≢false g);
         reads = reads-more u k (c .called);
         accepted = λ _. still-clean k clean placed u (c .called) f;
         placed = λ v z. still-placed k clean placed u (c .called) v z Accepted f ∙ ap (λ t. placeOf t (e .reader .scan .at)) (sym (joined-more us u));
       }
       go (Refused x) f = record {
         pieces = us ++ (u ∷ []);
+        brought-pieces = vs;
+        empty-first = first-empty;
+        answers = answers;
+        brought = b;
+        last = λ _. record { answers = []; brings = early (closed k clean placed u (c .called) f) };
         reads = reads-more u k (c .called);
         accepted = λ g. absurd (false≢true g);
         placed = λ v z. still-placed k clean placed u (c .called) v z (Refused x) f ∙ ap (λ t. placeOf t (e .reader .scan .at)) (sym (joined-more us u));
@@ -113,18 +134,28 @@ module _ {a : Automaton} {n m : ℕ} where
 
   -- ---- an empty piece comes first, and then pieces that are not empty; fewer bytes can come with each
 
-  pub heard-first : {r : Reader} {p : Place} {h : Heard} (u : List ℕ) → r ≡ fresh → p ≡ first → Hears a n m r p u h → SoFar a n m h
+  pub heard-first : {r : Reader} {p : Place} {h : Heard} (u : List ℕ) → u ≡ [] → r ≡ fresh → p ≡ first → Hears a n m r p u h → SoFar a n m h
   unfolding refusedAt
-  heard-first {h = h} u e f c = heard-more {us = []} u none (λ _ _. refl) (λ _ _. refl) (subst₂ (λ r p. Hears a n m r p u h) e f c)
+  heard-first {h = h} u nil e f c =
+      heard-more {us = []} {vs = []} u (ap (λ v. v ∷ []) nil) no-piece none (λ _ _. refl) (λ _ _. refl) (subst₂ (λ r p. Hears a n m r p u h) e f c)
 
   module _ {h : Heard} (t : h .more ≡ true) (s : SoFar a n m h) where
     clean : Valid a → Dimensioned n m → refusedAt (h .reader .scan .place) ≡ false
     clean _ _ = by (refusedAt (h .reader .scan .place)) (λ e. absurd (s .accepted t (λ (v, z, f). true≢false (sym e ∙ f)))) (λ e. e)
 
     pub heard-next : {k : Heard} → Goes a n m h k → SoFar a n m k
-    heard-next (ends w e) =
-        subst (SoFar a n m) (sym e) (record { pieces = s .pieces; reads = s .reads; accepted = λ g. absurd (false≢true g); placed = s .placed })
-    heard-next (goes u g c) = heard-more u (s .reads) clean (s .placed) c
+    heard-next (ends w l e) = subst (SoFar a n m) (sym e) (record {
+      pieces = s .pieces;
+      brought-pieces = s .brought-pieces;
+      empty-first = s .empty-first;
+      answers = s .answers;
+      brought = s .brought;
+      last = λ _. last-refused (λ x. absurd x) l;
+      reads = s .reads;
+      accepted = λ g. absurd (false≢true g);
+      placed = s .placed;
+    })
+    heard-next (goes u g l c) = heard-more u (ap (λ ps. ps ++ (u ∷ [])) (s .empty-first)) (brought-more u g l (s .brought)) (s .reads) clean (s .placed) c
 
     module _ (v : Valid a) (z : Dimensioned n m) where
       ahead-is : ahead h ≡ 4294967296 - h .reader .scan .at
@@ -141,8 +172,8 @@ module _ {a : Automaton} {n m : ℕ} where
       reply-falls u e g c (Refused x) f = ahead-some
 
       falls : {k : Heard} → Goes a n m h k → ahead k < ahead h
-      falls (ends w e) = subst (λ x. ahead x < ahead h) (sym e) ahead-some
-      falls (goes u g c) = subst (λ x. ahead x < ahead h) (sym (c .is)) (reply-falls u (c .reply) g (c .called) (c .reply .answer) refl)
+      falls (ends w l e) = subst (λ x. ahead x < ahead h) (sym e) ahead-some
+      falls (goes u g l c) = subst (λ x. ahead x < ahead h) (sym (c .is)) (reply-falls u (c .reply) g (c .called) (c .reply .answer) refl)
 
     pub ahead-falls : {k : Heard} → Goes a n m h k → ahead k < ahead h
     ahead-falls {k} g = go (decLt (ahead k) (ahead h))

@@ -12,15 +12,16 @@ use lib.Dec.{ltb, leb, eqb}
 use lib.IntN.{ℤ, natAbs}
 use lib.ListN.{length, drop, getD, length-append}
 use lib.Seq.{drop-append-seam, drop-append-le}
-use Rattle.meaning.specs.Tests.{and-left}
+use Rattle.meaning.specs.TestLaws.{and-left}
 use Rattle.text_places.specs.PlaceLaws.{feeds, feeds-append}
 use Rattle.solution.specs.declared.Reader.{Reader}
 use Rattle.solution.specs.declared.scan.Scan.{Scan}
 use Rattle.solution.specs.declared.scan.Place.{Place}
 use Rattle.solution.specs.declared.scan.Place.the-variants.{Start, Comment, AfterS, BeforeWord, Word, AfterWord, AfterToken, BeforeToken, AfterMinus, Digits, Ended, BadForm, BadLiteral}
 use Rattle.solution.specs.SolverText.{blank, digit, digit19, word, unstated, satisfiable, literalOf}
-use Rattle.solution.specs.Machine.{at-rest, unfitting, bad, atStart, inComment, afterS, beforeWord, spelt, follows, turns, nextLetter, wordDone, inWord, afterWord, afterToken, firstByte, tokenByte, beforeToken, afterMinus, settle, inDigits, byPlace, refusedAt, atLimit, step, run, judge, judgeWord, endAt, end, fresh}
+use Rattle.solution.specs.Machine.{unfitting, bad, atStart, inComment, afterS, beforeWord, spelt, follows, turns, nextLetter, wordDone, inWord, afterWord, afterToken, firstByte, tokenByte, beforeToken, afterMinus, settle, inDigits, byPlace, refusedAt, atLimit, step, run, judge, judgeWord, endAt, end, fresh}
 use Rattle.solution.specs.Cases.{by, either, either-way}
+use Rattle.solution.specs.Staying.{refused-byte, refused-run}
 
 -- ---- lines
 
@@ -210,41 +211,12 @@ module _ (last kept : ℕ) where
       (λ e. let k = eqb-false (r .scan .at) 4294967295 e in
       by-place t (r .scan) b h o (omega (arith, h .limit)) last kept (r .named) (r .scan .place) refl)
 
-  -- ---- a refused text stays refused
-
-  place-stays : (p : Place) (s : Scan) (named : List ℕ) (b : ℕ) → refusedAt p ≡ true → byPlace p last kept s named b ≡ at-rest s named
-  unfolding refusedAt byPlace
-  place-stays Start s named b e = absurd (false≢true e)
-  place-stays Comment s named b e = absurd (false≢true e)
-  place-stays AfterS s named b e = absurd (false≢true e)
-  place-stays BeforeWord s named b e = absurd (false≢true e)
-  place-stays Word s named b e = absurd (false≢true e)
-  place-stays AfterWord s named b e = absurd (false≢true e)
-  place-stays AfterToken s named b e = absurd (false≢true e)
-  place-stays BeforeToken s named b e = absurd (false≢true e)
-  place-stays AfterMinus s named b e = absurd (false≢true e)
-  place-stays Digits s named b e = absurd (false≢true e)
-  place-stays Ended s named b e = absurd (false≢true e)
-  place-stays BadForm s named b e = refl
-  place-stays BadLiteral s named b e = refl
-
-  step-stays : (r : Reader) (b : ℕ) → refusedAt (r .scan .place) ≡ true → step last kept (r .scan) (r .named) b ≡ r
-  unfolding step atLimit
-  step-stays r b e =
-      either (λ x. x ≡ r) (eqb (r .scan .at) 4294967295)
-      (λ _. ap (λ s. at-rest s (r .named)) (either (λ s. s ≡ r .scan) (refusedAt (r .scan .place)) (λ _. refl) (λ f. absurd (true≢false (sym e ∙ f)))))
-      (λ _. place-stays (r .scan .place) (r .scan) (r .named) b e)
-
-  run-stays : (r : Reader) (u : List ℕ) → refusedAt (r .scan .place) ≡ true → run last kept r u ≡ r
-  run-stays r [] e = refl
-  run-stays r (b ∷ u) e = ap (λ x. run last kept x u) (step-stays r b e) ∙ run-stays r u e
-
   -- ---- a piece u behind t
 
   step-counted : (t : List ℕ) (r : Reader) (b : ℕ) → Counted t (r .scan) → Counted (t ++ (b ∷ [])) (step last kept (r .scan) (r .named) b .scan)
   step-counted t r b h =
       by (refusedAt (r .scan .place))
-      (λ e. subst (λ x. Counted (t ++ (b ∷ [])) (x .scan)) (sym (step-stays r b e)) (record {
+      (λ e. subst (λ x. Counted (t ++ (b ∷ [])) (x .scan)) (sym (refused-byte last kept r e b)) (record {
         limit = h .limit;
         inside = omega (arith, h .inside, length-more t b);
         all = λ f. absurd (true≢false (sym e ∙ f));
@@ -265,29 +237,10 @@ module _ (last kept : ℕ) where
       let q : Reader = step last kept (r .scan) (r .named) b in
       let n : Next t b (q .scan) = step-next t r b h o in
       by (refusedAt (q .scan .place))
-      (λ e. subst (λ x. From t (x .scan .at)) (sym (run-stays q u e)) (n .from e))
+      (λ e. subst (λ x. From t (x .scan .at)) (sym (refused-run last kept q e u)) (n .from e))
       (λ e. from-less t b _ (run-from (t ++ (b ∷ [])) q u (n .counted) e k))
 
   -- ---- the end of the text t
-
-  pub end-stays : (r : Reader) → refusedAt (r .scan .place) ≡ true → end last kept r ≡ r
-  unfolding refusedAt endAt
-  end-stays r e = go (r .scan .place) e
-    where
-      go : (p : Place) → refusedAt p ≡ true → endAt p last kept (r .scan) (r .named) ≡ r
-      go Start e = absurd (false≢true e)
-      go Comment e = absurd (false≢true e)
-      go AfterS e = absurd (false≢true e)
-      go BeforeWord e = absurd (false≢true e)
-      go Word e = absurd (false≢true e)
-      go AfterWord e = absurd (false≢true e)
-      go AfterToken e = absurd (false≢true e)
-      go BeforeToken e = absurd (false≢true e)
-      go AfterMinus e = absurd (false≢true e)
-      go Digits e = absurd (false≢true e)
-      go Ended e = absurd (false≢true e)
-      go BadForm e = refl
-      go BadLiteral e = refl
 
   pub end-from : (t : List ℕ) (r : Reader) → Counted t (r .scan) → refusedAt (r .scan .place) ≡ false → From t (end last kept r .scan .at)
   unfolding judge judgeWord settle endAt literal

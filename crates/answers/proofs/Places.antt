@@ -25,8 +25,8 @@ place-stable p q h = go (ℕ-discrete (p .offset) (q .offset)) (ℕ-discrete (p 
     go (yes o) (yes l) (no c) = absurd (h (λ e. c (ap (λ x. x .column) e)))
 
 -- the filled part of a buffer is not empty
-pub piece-some : (n : ℕ) (xs u : List ℕ) → u ≡ take n xs → n ≤ length xs → ¬ (n ≡ 0) → 0 < length u
-piece-some n xs u e h k = omega (arith, ap length e, length-take-le n xs h)
+pub piece-some : (n room : ℕ) (xs u : List ℕ) → u ≡ take n xs → n ≤ room → room ≡ length xs → ¬ (n ≡ 0) → (0 < length u) × (length u ≤ room)
+piece-some n room xs u e h l k = let t = length-take-le n xs (omega (arith, h, l)) in (omega (arith, ap length e, t), omega (arith, ap length e, t, h))
 
 -- behind a text
 pub place-end : (t : List ℕ) → placeOf t (length t) ≡ after first t

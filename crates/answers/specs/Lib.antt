@@ -1,3 +1,4 @@
 pub mod FromPieces
+pub mod Bringing
 pub mod SoFar
 pub mod Whole

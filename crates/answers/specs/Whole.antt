@@ -1,5 +1,6 @@
 -- What is told is the answer to the whole text that the pieces make up, and to a text that states a satisfying assignment, the table that it decodes to.
 use mathlib.Core.List.{List}
+use mathlib.Core.Option.{none}
 use Prim.Native.Nat.{ℕ, _≤_}
 use lib.ListN.{length}
 use Rattle.automaton.specs.declared.Automaton.{Automaton}
@@ -9,11 +10,10 @@ use Rattle.encoding.specs.Clauses.{Assignment, Satisfies, base-file}
 use Rattle.variables.specs.Sizes.{Dimensioned}
 use Rattle.solution.specs.SolverText.{outcome}
 use Rattle.solution.specs.Assignment.{States}
-use Rattle.solution.specs.Calls.{last, kept}
-use Rattle.solution.specs.Pieces.{joined}
-use Rattle.decode.specs.Answers.{Untouched, found}
+use Rattle.solution.specs.Calls.{joined, last, kept}
+use Rattle.decode.specs.Answers.{Untouched, found, OfText}
 use Rattle.decode.specs.Table.{decodedValue}
-use Rattle.decode.specs.Texts.{OfText, text-answer, satisfying-text}
+use Rattle.decode.specs.Texts.{text-answer, satisfying-text}
 use Rattle.answers.specs.declared.Told.{Told}
 use Rattle.answers.specs.FromPieces.{FromPieces}
 
@@ -23,5 +23,5 @@ module _ {p p′ l l′ : List ℕ} {t : Told} {a : Automaton} {n m : ℕ} (f : 
   text-told = text-answer v z hp hl (f .reads) (f .decodes)
 
   pub table-told : (ν : Assignment) → Satisfies ν (base-file (view a) n m) → States (last a n m) (kept a n m) (joined (f .pieces)) ν
-      → Untouched p p′ l l′ (t .decoded) (found (decodedValue a n m ν))
+      → Untouched p p′ l l′ (t .decoded) (found (decodedValue a n m ν)) none
   table-told ν s x = satisfying-text v z hp hl ν s (f .reads) x (f .decodes)

@@ -9,6 +9,7 @@ use solution::Reader;
 use text_places::Place;
 use text_places::part::first;
 ghost use mathlib.Core.Path.{_≡_};
+ghost use mathlib.Core.Bool.{false};
 ghost use Rattle.automaton.specs.Refused.{codeOf};
 ghost use Rattle.text_places.specs.Places.{within};
 ghost use Rattle.answers.specs.FromPieces.{FromPieces};
@@ -75,7 +76,8 @@ struct Heard {
 // An empty piece comes first: what is refused before reading is refused before the text is waited for. Byte 4,294,967,295 is
 // refused, so a text ends.
 fn hear_all(fd: i32, name: &[u8], reference: Automaton, n: usize, m: usize) -> Heard
-    ensures { λ r. ⌜ SoFar reference n m r ⌝ }
+    ensures so_far { λ r. ⌜ SoFar reference n m r ⌝ }
+    ensures over { λ r. ⌜ r .more ≡ false ⌝ }
 {
     let mut heard = hear(
         Reader::fresh(),

@@ -6,7 +6,7 @@ use native.Mathlib.Decide.{decLt}
 use native.Mathlib.Omega.{arith}
 use lib.ListN.{length, getD}
 use lib.Seq.{ext-getD}
-use Rattle.meaning.specs.BitSet.{has-same}
+use Rattle.meaning.specs.BitSetLaws.{has-same}
 use Rattle.automaton.specs.declared.Automaton.{Automaton}
 use Rattle.automaton.specs.Value.{Valid, letters, destination, markSet, name, nameLength, nameByte}
 use Rattle.automaton.specs.View.{view}

@@ -2,7 +2,9 @@ pub mod Value
 pub mod Rows
 pub mod Powers
 pub mod View
+pub mod ViewLaws
 pub mod Refused
+pub mod Bytes
 pub mod Names
 pub mod Equality
 pub mod Tests

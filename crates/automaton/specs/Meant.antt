@@ -8,7 +8,7 @@ use native.Mathlib.Omega.{arith}
 use borrow.Author.Tests.{le-leb, lt-ltb, leb-true, ltb-true}
 use lib.Dec.{leb, ltb}
 use lib.ListN.{length}
-use Rattle.meaning.specs.Tests.{and-true, and-left, and-right, truth}
+use Rattle.meaning.specs.TestLaws.{and-true, and-left, and-right, truth}
 use Rattle.automaton.specs.declared.Automaton.{Automaton}
 use Rattle.automaton.specs.Value.{Valid, letters, nameLength, nameByte}
 use Rattle.automaton.specs.Powers.{power-is, power-le}

@@ -11,7 +11,7 @@ use lib.Arith.{digits-div, digits-mod}
 use lib.ListN.{length, getD}
 use lib.Seq.{ext-getD}
 use lib.Dec.{leb, eqb}
-use Rattle.meaning.specs.Tests.{and-true, and-left, and-right}
+use Rattle.meaning.specs.TestLaws.{and-true, and-left, and-right}
 use Rattle.automaton.specs.Value.{NameByte}
 use Rattle.automaton.specs.Rows.{place}
 use Rattle.automaton.specs.Names.{slot, slot-length, slot-byte, printable-means, means-printable}

@@ -8,7 +8,7 @@ use borrow.Author.Tests.{le-leb, leb-true, ne-eqb, eqb-false, not-true}
 use lib.Dec.{leb, eqb}
 use lib.ListN.{length, getD, take, drop, length-take, length-drop}
 use lib.Seq.{getD-take, getD-drop}
-use Rattle.meaning.specs.Tests.{and-true, and-left, and-right}
+use Rattle.meaning.specs.TestLaws.{and-true, and-left, and-right}
 use Rattle.automaton.specs.Value.{printable, NameByte}
 
 pub printable-means : (b : ℕ) → printable b ≡ true → NameByte b

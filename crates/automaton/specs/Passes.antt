@@ -4,7 +4,7 @@ use mathlib.Core.Bool.{Bool, true, false}
 use Prim.Native.Nat.{ℕ, _+_, _≤_, _<_}
 use native.Mathlib.Nat.{le-antisymm}
 use native.Mathlib.Numerals.{add-one}
-use Rattle.meaning.specs.Tests.{and-true, all-at, all-of, all-off}
+use Rattle.meaning.specs.TestLaws.{and-true, all-at, all-of, all-off}
 use Rattle.automaton.specs.Tests.{passes}
 
 pub passes-none : (p : ℕ → Bool) → passes 0 p ≡ true

@@ -6,7 +6,7 @@ use native.Mathlib.Omega.{arith}
 use lib.Arith.{digits-lt, digits-div, digits-mod}
 use lib.ListN.{length, getD}
 use lib.Seq.{ext-getD}
-use Rattle.meaning.specs.Counting.{each-length, each-at}
+use Rattle.meaning.specs.CountingLaws.{each-length, each-at}
 use Rattle.automaton.specs.Value.{rows}
 
 pub place : (k : ℕ) → k / 16 * 16 + k % 16 ≡ k

@@ -7,6 +7,7 @@ ghost use Rattle.automaton.specs.Tests.{countsFit, fits, tablesFit};
 ghost use Rattle.automaton.specs.Value.{Valid, empty};
 
 pub mod names;
+mod naming;
 pub mod powers;
 pub mod refusal;
 pub mod states;
@@ -79,7 +80,7 @@ fn fits(a: Automaton) -> bool
     }
     let names = a.names;
     let lengths = a.lengths;
-    names::named(names, lengths, a.propositions)
+    naming::named(names, lengths, a.propositions)
 }
 
 // The start is a state, so there is one.

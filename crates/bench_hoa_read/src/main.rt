@@ -21,7 +21,9 @@ fn main() {
         return usage();
     }
     let mut word = io::buffer();
-    let Number::Of(rounds) = input::number(1, &mut word) else {
+    let argument = input::number(1, &mut word);
+    let count = argument.number;
+    let Number::Of(rounds) = count else {
         return usage();
     };
     let mut texts = [0u8; hoa_read::TEXT];

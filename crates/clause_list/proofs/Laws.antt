@@ -13,21 +13,28 @@ use lib.ListN.{length, set, length-set}
 use mir.Syntax.{w32}
 use mir.Val.{toZ, ofZ}
 use mir.ValLaws.{toZ-ofZ}
-use Rattle.meaning.specs.BitSet.{has-test}
-use Rattle.encoding.specs.Variables.{mark}
+use Rattle.meaning.specs.BitSetLaws.{has-test}
+use Rattle.encoding.specs.Variables.{Var, mark}
 use Rattle.encoding.specs.Clauses.{each}
 use Rattle.encoding.specs.Loops.{each-length}
 use Rattle.decimal.specs.Wrote.{Wrote}
 use Rattle.decimal.specs.Writing.{wrote-none, wrote-one, wrote-then, wrote-length}
 use Rattle.variables.specs.declared.sizes.Sizes.{Sizes}
 use Rattle.variables.specs.Sizes.{Fitting}
-use Rattle.variables.specs.Numbers.{numberOf}
-use Rattle.clause_list.specs.declared.groups.Indices.{Indices}
-use Rattle.clause_list.specs.Groups.{markLiteral, marksOf, premiseOf}
+use Rattle.variables.specs.Numbers.{numberOf, Numbered, LiteralIfAny}
+use Rattle.clause_list.specs.declared.indices.Indices.{Indices}
+use Rattle.clause_list.specs.Indices.{markLiteral, marksOf, premiseOf}
 
 -- a signed number is what its bits say
 pub stored : {z : ℤ} → mag z < 2 ^ 31 → toZ w32 (ofZ w32 z) ≡ z
 stored {z} h = toZ-ofZ w32 z (record { sfits = h })
+
+-- the literals of a variable that the file has
+pub positive-of : {z : Sizes} {x : Var} {k : ℕ} {r : ℤ} → Numbered z x k → LiteralIfAny k (pos k) r → r ≡ pos (numberOf z x)
+positive-of n l = l .there (omega (arith, n .small)) ∙ ap pos (n .is)
+
+pub negative-of : {z : Sizes} {x : Var} {k : ℕ} {r : ℤ} → Numbered z x k → LiteralIfAny k (negℤ (pos k)) r → r ≡ negℤ (pos (numberOf z x))
+negative-of n l = l .there (omega (arith, n .small)) ∙ ap (λ k. negℤ (pos k)) (n .is)
 
 -- ---- a loop that writes one element each turn
 

@@ -13,12 +13,13 @@ use Rattle.encoding.specs.Numbering.{split}
 use Rattle.decimal.specs.Wrote.{Wrote}
 use Rattle.variables.specs.declared.sizes.Sizes.{Sizes}
 use Rattle.variables.specs.Sizes.{Fitting}
-use Rattle.clause_list.specs.declared.groups.Indices.{Indices}
-use Rattle.clause_list.specs.declared.indices.Marking.{Marking}
-use Rattle.clause_list.specs.declared.indices.Transition.{Transition}
-use Rattle.clause_list.specs.Groups.{Within, Successive, successorOf, premiseOf, extensionOf}
+use Rattle.clause_list.specs.declared.indices.Indices.{Indices}
+use Rattle.clause_list.specs.declared.digits.Marking.{Marking}
+use Rattle.clause_list.specs.declared.digits.Transition.{Transition}
+use Rattle.clause_list.specs.Indices.{Within, premiseOf, successors, extensionIndices}
+use Rattle.clause_list.specs.Groups.{Successive, successorOf, extensionOf}
 use Rattle.clause_list.specs.Tables.{StepsWithin, Tables}
-use Rattle.clause_list.specs.Indices.{MarkingOf, TransitionOf, successors, extensionIndices, closureIndices}
+use Rattle.clause_list.specs.Digits.{MarkingOf, TransitionOf, closureIndices}
 use Rattle.clause_list.specs.Position.{Stands, none, one, successorAt, extensionAt, closureAt, oneFull}
 
 module _ (z : Sizes) where

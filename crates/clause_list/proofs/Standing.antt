@@ -19,9 +19,10 @@ use Rattle.variables.specs.declared.sizes.Sizes.{Sizes}
 use Rattle.variables.specs.Sizes.{Fitting}
 use Rattle.variables.specs.Limits.{candidate-subsets-le, reference-subsets-le}
 use Rattle.variables.specs.Numbers.{numberOf}
-use Rattle.clause_list.specs.declared.position.Extent.{Extent}
+use Rattle.clause_list.specs.declared.extent.Extent.{Extent}
 use Rattle.clause_list.specs.Groups.{totalityOf}
-use Rattle.clause_list.specs.Position.{Stands, one, none, ExtentOf, oneFull}
+use Rattle.clause_list.specs.Position.{Stands, one, none, oneFull}
+use Rattle.clause_list.specs.Indices.{ExtentOf}
 
 -- a clause that is written, and has a literal
 pub stands : {A : Type 0} {d e c : List A} {cs : List (List A)} {r : ℕ} → cs ≡ c ∷ [] → 0 < length c → Wrote d 0 c e r → Stands d cs e r

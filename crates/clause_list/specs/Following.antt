@@ -9,7 +9,8 @@ use lib.ListN.{length}
 use Rattle.encoding.specs.Variables.{Task, Var}
 use Rattle.encoding.specs.Clauses.{each, file}
 use Rattle.encoding.specs.Loops.{each-same, each-add, each-in, each-elim}
-use Rattle.encoding.specs.Positions.{positions, at-position, by-position, at-most-one}
+use Rattle.encoding.specs.Positions.{positions, at-position}
+use Rattle.encoding.specs.ByPosition.{by-position, at-most-one}
 use Rattle.clause_list.specs.Next.{Found, handed, ended, here-or, search-from, next-clause, clauses-from}
 
 module _ (T : Task) (num : Var → ℕ) where

@@ -1,4 +1,4 @@
--- What the function that looks for the next clause leaves in the buffer and returns.
+-- DEFINITION: what the function that looks for the next clause leaves in the buffer and returns.
 use mathlib.Core.Path.{_≡_}
 use mathlib.Core.List.{List}
 use Prim.Native.Nat.{_<_}

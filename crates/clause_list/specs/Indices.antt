@@ -1,15 +1,29 @@
--- The indices of a position, and that they lie in their ranges.
+-- DEFINITIONS: the indices of a clause, how many positions each group has, the indices of a position of group 3, and what groups 3 and 4 have in
+-- common.
 use mathlib.Core.Path.{_≡_}
-use mathlib.Core.List.{List}
-use Prim.Native.Nat.{ℕ, _+_, _*_, _/_, _%_, _^_, _<_}
-use lib.ListN.{getD}
-use Rattle.encoding.specs.Numbering.{split}
+use mathlib.Core.Bool.{cond}
+use mathlib.Core.List.{List, [], _∷_}
+use Prim.Native.Nat.{ℕ, _+_, _*_, _/_, _%_, _^_, _≤_, _<_}
+use lib.IntN.{ℤ, pos, negℤ}
+use Rattle.meaning.specs.BitSet.{has}
+use Rattle.encoding.specs.Variables.{step, mark, path}
+use Rattle.encoding.specs.Clauses.{each}
 use Rattle.variables.specs.declared.sizes.Sizes.{Sizes}
-use Rattle.clause_list.specs.declared.groups.Indices.{Indices}
-use Rattle.clause_list.specs.declared.indices.Marking.{Marking}
-use Rattle.clause_list.specs.declared.indices.Transition.{Transition}
-use Rattle.clause_list.specs.Groups.{Within}
-use Rattle.clause_list.specs.Tables.{Tables}
+use Rattle.variables.specs.Numbers.{numberOf}
+use Rattle.clause_list.specs.declared.indices.Indices.{Indices}
+use Rattle.clause_list.specs.declared.extent.Extent.{Extent}
+
+-- the indices of groups 3 and 4 in their ranges
+pub record Within (z : Sizes) (x : Indices) : Type 0 where
+  pub q-lt : x .q .0 < z .candidate .states
+  pub p-lt : x .p .0 < z .candidate .states
+  pub t-lt : x .t .0 < z .candidate .states
+  pub u-lt : x .u .0 < z .reference .states
+  pub v-lt : x .v .0 < z .reference .states
+  pub l-lt : x .l < z .letters
+  pub i-lt : x .i < 2 ^ z .candidate .sets
+  pub j-lt : x .j < 2 ^ z .reference .sets
+  pub k-lt : x .k < 2 ^ z .candidate .sets
 
 module _ (z : Sizes) where
   abbrev n : ℕ
@@ -27,17 +41,6 @@ module _ (z : Sizes) where
   abbrev S : ℕ
   S = 2 ^ z .reference .sets
 
-  pub record MarkingOf (x : ℕ) (a : Marking) : Type 0 where
-    pub i-is : a .i ≡ x / M / S % M
-    pub j-is : a .j ≡ x / M % S
-    pub k-is : a .k ≡ x % M
-    pub rest-is : a .rest ≡ x / M / S / M
-
-  pub record TransitionOf (x : ℕ) (a : Transition) : Type 0 where
-    pub v-is : a .v .0 ≡ x / L % r
-    pub l-is : a .l ≡ x % L
-    pub rest-is : a .rest ≡ x / L / r
-
   -- how many positions groups 3 and 4 have, and group 2 after its first
   abbrev pub extensions : ℕ
   extensions = n * n * n * r * r * L * M * S * M
@@ -48,6 +51,7 @@ module _ (z : Sizes) where
   abbrev pub successors : ℕ
   successors = n * n * r * L
 
+  -- "By q, p, t, u, v, l, I, J, K", the last fastest
   abbrev pub extensionIndices : ℕ → Indices
   extensionIndices x =
       let a = x / M / S / M in
@@ -64,51 +68,25 @@ module _ (z : Sizes) where
         k = x % M;
       }
 
-  abbrev pub closureIndices : List ℕ → ℕ → Indices
-  closureIndices destinations x =
-      let a = x / M / S / M in
-      let b = a / L / r in
-      record {
-        q = record { 0 = b / n };
-        p = record { 0 = b % n };
-        t = record { 0 = b / n };
-        u = record { 0 = getD destinations (a / L % r * 16 + a % L) 0 };
-        v = record { 0 = a / L % r };
-        l = a % L;
-        i = x / M / S % M;
-        j = x / M % S;
-        k = x % M;
-      }
+-- the positions of groups 1, 2 and 3, and all
+pub record ExtentOf (z : Sizes) (g : Extent) : Type 0 where
+  pub first-is : g .first ≡ z .candidate .states * z .letters
+  pub second-is : g .second ≡ 1 + successors z
+  pub third-is : g .third ≡ extensions z
+  pub all-is : g .all ≡ g .first + (g .second + (g .third + closures z))
+  pub all-le : g .all ≤ 8_657_059_969
 
-  pub extension-within : (x : ℕ) → x < extensions → Within z (extensionIndices x)
-  extension-within x h =
-      let k = split x (n * n * n * r * r * L * M * S) M h in
-      let j = split (x / M) (n * n * n * r * r * L * M) S (k .0) in
-      let i = split (x / M / S) (n * n * n * r * r * L) M (j .0) in
-      let l = split (x / M / S / M) (n * n * n * r * r) L (i .0) in
-      let v = split (x / M / S / M / L) (n * n * n * r) r (l .0) in
-      let u = split (x / M / S / M / L / r) (n * n * n) r (v .0) in
-      let t = split (x / M / S / M / L / r / r) (n * n) n (u .0) in
-      let p = split (x / M / S / M / L / r / r / n) n n (t .0) in
-      record { q-lt = p .0; p-lt = p .1; t-lt = t .1; u-lt = u .1; v-lt = v .1; l-lt = l .1; i-lt = i .1; j-lt = j .1; k-lt = k .1 }
+-- "for each i ascending mark(p,l,i,t), negative if i is in K"
+abbrev pub markLiteral : Sizes → (p l t K i : ℕ) → ℤ
+markLiteral z p l t K i = cond (has K i) (negℤ (pos (numberOf z (mark p l i t)))) (pos (numberOf z (mark p l i t)))
 
-  pub closure-within : (destinations marks : List ℕ) → Tables z destinations marks → (x : ℕ) → x < closures
-      → Within z (closureIndices destinations x)
-  closure-within destinations marks tables x h =
-      let k = split x (n * n * r * L * M * S) M h in
-      let j = split (x / M) (n * n * r * L * M) S (k .0) in
-      let i = split (x / M / S) (n * n * r * L) M (j .0) in
-      let l = split (x / M / S / M) (n * n * r) L (i .0) in
-      let v = split (x / M / S / M / L) (n * n) r (l .0) in
-      let p = split (x / M / S / M / L / r) n n (v .0) in
-      record {
-        q-lt = p .0;
-        p-lt = p .1;
-        t-lt = p .0;
-        u-lt = tables .step-lt _ _ (v .1) (l .1);
-        v-lt = v .1;
-        l-lt = l .1;
-        i-lt = i .1;
-        j-lt = j .1;
-        k-lt = k .1;
-      }
+-- the marks of the first k sets
+abbrev pub marksOf : Sizes → (p l t K k : ℕ) → List ℤ
+marksOf z p l t K k = each k λ i. markLiteral z p l t K i ∷ []
+
+-- "-path(q,u,p,v,I,J), -step(p,l,t)", and the marks; in group 4 all of the clause
+abbrev pub premiseOf : Sizes → Indices → List ℤ
+premiseOf z x =
+    negℤ (pos (numberOf z (path (x .q .0) (x .u .0) (x .p .0) (x .v .0) (x .i) (x .j))))
+    ∷ negℤ (pos (numberOf z (step (x .p .0) (x .l) (x .t .0))))
+    ∷ marksOf z (x .p .0) (x .l) (x .t .0) (x .k) (z .candidate .sets)

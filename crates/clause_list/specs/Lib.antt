@@ -1,6 +1,8 @@
 pub mod Tables
-pub mod Groups
+pub mod Measured
 pub mod Indices
+pub mod Groups
+pub mod Digits
 pub mod Position
 pub mod Standing
 pub mod Next

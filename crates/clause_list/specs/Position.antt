@@ -2,7 +2,7 @@
 use mathlib.Core.Path.{_≡_, refl, ap, _∙_}
 use mathlib.Core.Bool.{Bool, xor}
 use mathlib.Core.List.{List, [], _∷_}
-use Prim.Native.Nat.{ℕ, _+_, _-_, _*_, _/_, _%_, _^_, _≤_, _<_}
+use Prim.Native.Nat.{ℕ, _+_, _-_, _*_, _/_, _%_, _^_, _<_}
 use lib.Dec.{eqb}
 use lib.IntN.{ℤ}
 use lib.ListN.{getD}
@@ -15,10 +15,10 @@ use Rattle.encoding.specs.Positions.{at₁, successor-at, at₃, at₄}
 use Rattle.decimal.specs.Wrote.{Wrote}
 use Rattle.variables.specs.declared.sizes.Sizes.{Sizes}
 use Rattle.variables.specs.Numbers.{numberOf}
-use Rattle.clause_list.specs.declared.position.Extent.{Extent}
 use Rattle.clause_list.specs.Tables.{tabled, taskOf, Tables}
-use Rattle.clause_list.specs.Groups.{totalityOf, initialOf, successorOf, premiseOf, extensionOf}
-use Rattle.clause_list.specs.Indices.{extensions, closures, successors, extensionIndices, closureIndices, extension-within, closure-within}
+use Rattle.clause_list.specs.Groups.{totalityOf, initialOf, successorOf, extensionOf}
+use Rattle.clause_list.specs.Indices.{premiseOf, extensions, closures, extensionIndices}
+use Rattle.clause_list.specs.Digits.{closureIndices, extension-within, closure-within}
 
 -- the one clause of `cs` is written at the start of d, and r is its length; or `cs` is empty, nothing is written, and r is 0
 pub data Stands {A : Type 0} (d : List A) (cs : List (List A)) (e : List A) (r : ℕ) : Type 0 where
@@ -87,12 +87,3 @@ module _ (z : Sizes) (start : ℕ) (destinations marks : List ℕ) where
         ap (λ b. only b (premiseOf z i))
         (exactly-one-full (tabled z start destinations marks) (z .candidate .states) (z .candidate .sets) (λ S. refl) (i .v .0) (i .l) (i .i) (i .j) (i .k) (w .i-lt) (w .j-lt) (w .k-lt)
         ∙ ap (λ F. oneFull z (i .i ∪ i .k) (i .j ∪ F)) (marks-is (i .v .0) (i .l) (w .v-lt) (w .l-lt)))
-
--- ---- how many positions
-
-pub record ExtentOf (z : Sizes) (g : Extent) : Type 0 where
-  pub first-is : g .first ≡ z .candidate .states * z .letters
-  pub second-is : g .second ≡ 1 + successors z
-  pub third-is : g .third ≡ extensions z
-  pub all-is : g .all ≡ g .first + (g .second + (g .third + closures z))
-  pub all-le : g .all ≤ 8_657_059_969

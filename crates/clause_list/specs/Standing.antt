@@ -3,15 +3,14 @@ use mathlib.Core.Path.{_≡_, refl, ap, _∙_, subst}
 use mathlib.Core.List.{List, [], _∷_}
 use Prim.Native.Nat.{ℕ, _-_, _/_, _%_, _≤_, _<_}
 use borrow.Author.Tests.{lt-ltb, le-ltb}
-use Rattle.encoding.specs.Loops.{then-at}
-use Rattle.encoding.specs.Positions.{at₂, at₃, at₄, at-position}
+use Rattle.encoding.specs.Positions.{then-at, at₂, at₃, at₄, at-position}
 use Rattle.variables.specs.declared.sizes.Sizes.{Sizes}
 use Rattle.variables.specs.Numbers.{numberOf}
-use Rattle.clause_list.specs.declared.position.Extent.{Extent}
+use Rattle.clause_list.specs.declared.extent.Extent.{Extent}
 use Rattle.clause_list.specs.Tables.{taskOf, Tables}
 use Rattle.clause_list.specs.Groups.{totalityOf, initialOf}
-use Rattle.clause_list.specs.Indices.{extensions, closures}
-use Rattle.clause_list.specs.Position.{ExtentOf, successorAt, extensionAt, closureAt, at₁-is, initial-is, successor-is, at₃-is, at₄-is}
+use Rattle.clause_list.specs.Indices.{extensions, closures, ExtentOf}
+use Rattle.clause_list.specs.Position.{successorAt, extensionAt, closureAt, at₁-is, initial-is, successor-is, at₃-is, at₄-is}
 
 -- two loops one after the other
 then-yes : {A : Type 0} {a x : ℕ} (f g : ℕ → List A) → x < a → then-at a f g x ≡ f x

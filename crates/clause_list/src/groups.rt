@@ -1,33 +1,19 @@
-// One clause of each group, written to the start of a buffer.
+// Groups 1, 2 and 3: one clause of each, written to the start of a buffer.
+use crate::indices::Indices;
+use crate::premise::premise;
 use automaton::states::CandidateState;
 use automaton::states::ReferenceState;
 use variables::literals::negative;
 use variables::literals::positive;
-use variables::numbers::mark_number;
 use variables::numbers::path_number;
 use variables::numbers::step_number;
 use variables::sizes::Sizes;
-ghost use mathlib.Core.Path.{_≡_};
-ghost use Prim.Native.Nat.{_+_, _^_, _≤_, _<_};
+ghost use Prim.Native.Nat.{_^_, _≤_, _<_};
 ghost use lib.ListN.{length};
-ghost use Rattle.encoding.specs.Variables.{mark};
 ghost use Rattle.decimal.specs.Wrote.{Wrote};
 ghost use Rattle.variables.specs.Sizes.{Fitting};
-ghost use Rattle.variables.specs.Numbers.{InFile};
-ghost use Rattle.clause_list.specs.Groups.{Within, Successive, totalityOf, initialOf, successorOf, markLiteral, marksOf, premiseOf, extensionOf};
-
-// The indices of group 3, in its order. Group 4 has them with t = q and u the reference's step from v by l.
-pub struct Indices {
-    pub q: CandidateState,
-    pub p: CandidateState,
-    pub t: CandidateState,
-    pub u: ReferenceState,
-    pub v: ReferenceState,
-    pub l: usize,
-    pub i: usize,
-    pub j: usize,
-    pub k: usize,
-}
+ghost use Rattle.clause_list.specs.Indices.{Within};
+ghost use Rattle.clause_list.specs.Groups.{Successive, totalityOf, initialOf, successorOf, extensionOf};
 
 // Group 1: the steps from q by l.
 pub fn totality(z: Sizes, q: CandidateState, l: usize, out: &mut [i32]) -> usize
@@ -84,51 +70,4 @@ pub fn extension(z: Sizes, x: Indices, w: ReferenceState, f: usize, out: &mut [i
     let at = premise(z, x, out);
     out[at] = positive(path_number(z, x.q, x.u, x.t, w, x.i | x.k, x.j | f));
     at + 1
-}
-
-// What groups 3 and 4 have in common: -path(q, u, p, v, I, J), -step(p, l, t), and the marks of p, l, t against K. All of
-// group 4's clause, where t = q and u is the reference's step from v by l.
-pub fn premise(z: Sizes, x: Indices, out: &mut [i32]) -> usize
-    requires { ⌜ Fitting z ⌝ }
-    requires { ⌜ Within z x ⌝ }
-    requires { ⌜ 8 ≤ length (now out) ⌝ }
-    ensures { λ r. ⌜ Wrote (now (out .entry)) 0 (premiseOf z x) (now (out .exit)) r ⌝ }
-{
-    out[0] = negative(path_number(z, x.q, x.u, x.p, x.v, x.i, x.j));
-    out[1] = negative(step_number(z, x.p, x.l, x.t));
-    marks(z, x.p, x.l, x.t, x.k, out)
-}
-
-// The marks of p, l, t against K, after two literals.
-fn marks(
-    z: Sizes,
-    p: CandidateState,
-    l: usize,
-    t: CandidateState,
-    k: usize,
-    out: &mut [i32],
-) -> usize
-    requires { ⌜ Fitting z ⌝ }
-    requires { ⌜ (p .0 < z .candidate .states) × (l < z .letters) × (t .0 < z .candidate .states) × (8 ≤ length (now out)) ⌝ }
-    ensures { λ r. ⌜ Wrote (now (out .entry)) 2 (marksOf z (p .0) l (t .0) k (z .candidate .sets)) (now (out .exit)) r ⌝ }
-{
-    let mut i: usize = 0;
-    while i < z.candidate.sets {
-        out[2 + i] = mark_literal(z, p, l, i, t, k);
-        i += 1;
-    }
-    2 + i
-}
-
-// "mark(p,l,i,t), negative if i is in K"
-fn mark_literal(z: Sizes, p: CandidateState, l: usize, i: usize, t: CandidateState, k: usize) -> i32
-    requires { ⌜ Fitting z ⌝ }
-    requires { ⌜ InFile z (mark (p .0) l i (t .0)) ⌝ }
-    ensures { λ r. ⌜ r ≡ markLiteral z (p .0) l (t .0) k i ⌝ }
-{
-    let variable = mark_number(z, p, l, i, t);
-    if (k >> i) % 2 == 1 {
-        return negative(variable);
-    }
-    positive(variable)
 }

@@ -1,5 +1,9 @@
-// The clauses of a file by position: one clause of each group, the clause at a position, and the next clause from a position on.
-pub mod groups;
+// The clauses of a file by position: how many positions there are, and the next clause from a position on. For the crates above: their callers have tested
+// the sizes and the tables.
+mod digits;
+pub mod extent;
+mod groups;
 pub mod indices;
 pub mod next;
-pub mod position;
+mod position;
+pub mod premise;

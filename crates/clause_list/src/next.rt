@@ -1,5 +1,5 @@
 // The next clause from a position on.
-use crate::position::Extent;
+use crate::extent::Extent;
 use crate::position::clause_at;
 use automaton::Automaton;
 use automaton::states::ReferenceState;
@@ -8,7 +8,7 @@ ghost use Prim.Native.Nat.{_≤_, _<_};
 ghost use lib.ListN.{length};
 ghost use Rattle.variables.specs.Numbers.{numberOf};
 ghost use Rattle.clause_list.specs.Tables.{taskOf, Tables};
-ghost use Rattle.clause_list.specs.Position.{ExtentOf};
+ghost use Rattle.clause_list.specs.Indices.{ExtentOf};
 ghost use Rattle.clause_list.specs.Next.{«next-clause»};
 ghost use Rattle.clause_list.specs.Handing.{Hands};
 

@@ -1,13 +1,15 @@
 // The clause at a position, where there is one.
+use crate::digits::marking_at;
+use crate::digits::transition_at;
+use crate::extent::Extent;
 use crate::groups::extension;
 use crate::groups::initial;
-use crate::groups::premise;
 use crate::groups::successor;
 use crate::groups::totality;
-use crate::indices::closure_indices;
+use crate::indices::Indices;
 use crate::indices::entry;
 use crate::indices::extension_indices;
-use crate::indices::transition_at;
+use crate::premise::premise;
 use automaton::Automaton;
 use automaton::states::CandidateState;
 use automaton::states::ReferenceState;
@@ -19,37 +21,10 @@ ghost use Rattle.encoding.specs.Positions.{«at-position»};
 ghost use Rattle.variables.specs.Sizes.{Fitting};
 ghost use Rattle.variables.specs.Numbers.{numberOf};
 ghost use Rattle.clause_list.specs.Tables.{StepsWithin, taskOf, Tables};
-ghost use Rattle.clause_list.specs.Indices.{extensions, closures, successors};
+ghost use Rattle.clause_list.specs.Indices.{extensions, closures, successors, ExtentOf};
+ghost use Rattle.clause_list.specs.Digits.{closureIndices};
 ghost use Rattle.decimal.specs.Wrote.{Wrote};
-ghost use Rattle.clause_list.specs.Position.{Stands, ExtentOf, successorAt, extensionAt, closureAt, oneFull};
-
-// How many positions groups 1, 2 and 3 have, and how many there are in all.
-pub struct Extent {
-    pub first: usize,
-    pub second: usize,
-    pub third: usize,
-    pub all: usize,
-}
-
-pub fn extent_of(z: Sizes) -> Extent
-    requires { ⌜ Fitting z ⌝ }
-    ensures { λ r. ⌜ ExtentOf z r ⌝ }
-{
-    let n = z.candidate.states;
-    let r = z.reference.states;
-    let own = z.candidate.subsets;
-    let other = z.reference.subsets;
-    let first = n * z.letters;
-    let moves = n * n * r * z.letters;
-    let markings = own * other * own;
-    let third = n * r * (moves * markings);
-    Extent {
-        first,
-        second: 1 + moves,
-        third,
-        all: first + (1 + moves + (third + moves * markings)),
-    }
-}
+ghost use Rattle.clause_list.specs.Position.{Stands, successorAt, extensionAt, closureAt, oneFull};
 
 // Writes the clause at position x, where there is one, and returns how many literals it has; else nothing, and 0.
 pub fn clause_at(
@@ -134,6 +109,29 @@ fn closure_at(
         return 0;
     }
     premise(z, indices, out)
+}
+
+// Of position x of group 4.
+fn closure_indices(z: Sizes, destinations: &[u8; Automaton::CELLS], x: usize) -> Indices
+    requires { ⌜ Fitting z × (x < closures z) ⌝ }
+    ensures { λ r. ⌜ r ≡ closureIndices z (now (destinations .entry)) x ⌝ }
+{
+    let n = z.candidate.states;
+    let s = marking_at(z, x);
+    let a = transition_at(z, s.rest);
+    let v = a.v;
+    let w = entry(destinations, v, a.l);
+    Indices {
+        q: CandidateState(a.rest / n),
+        p: CandidateState(a.rest % n),
+        t: CandidateState(a.rest / n),
+        u: ReferenceState(w),
+        v,
+        l: a.l,
+        i: s.i,
+        j: s.j,
+        k: s.k,
+    }
 }
 
 // "exactly one of "I∪K is all m" and "J∪F is all s""

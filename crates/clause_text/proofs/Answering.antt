@@ -1,21 +1,21 @@
 -- The answers of `line` and `lines`, case by case.
-use mathlib.Core.Path.{_≡_, refl, sym, _∙_, subst, subst₂}
+use mathlib.Core.Path.{_≡_, sym, _∙_, subst, subst₂}
 use mathlib.Core.Logic.{_≢_}
 use mathlib.Core.List.{List}
 use Prim.Native.Nat.{ℕ}
 use native.Mathlib.Omega.{arith}
 use lib.ListN.{length}
 use Rattle.automaton.specs.declared.Automaton.{Automaton}
-use Rattle.automaton.specs.declared.refusal.Refusal.{Refusal}
 use Rattle.variables.specs.declared.sizes.Sizes.{Sizes}
 use Rattle.variables.specs.Numbers.{numberOf}
 use Rattle.variables.specs.Measured.{Measured}
-use Rattle.clause_list.specs.Tables.{taskOf, measured-task, measured-number}
+use Rattle.clause_list.specs.Tables.{taskOf}
+use Rattle.clause_list.specs.Measured.{measured-task, measured-number}
 use Rattle.clause_list.specs.Next.{next-clause}
 use Rattle.clauses.specs.declared.Answer.{Answer}
 use Rattle.clauses.specs.declared.Answer.the-variants.{Written, Ended, Refused}
 use Rattle.clauses.specs.declared.Handed.{Handed}
-use Rattle.clauses.specs.Step.{TurnedDown, Accepted, handedOver}
+use Rattle.clauses.specs.Step.{Accepted}
 use Rattle.clauses.specs.Shared.{measured-found}
 use Rattle.clause_text.specs.declared.batch.Filled.{Filled}
 use Rattle.clause_text.specs.Answers.{LineFound, LineAnswers, LineStepped, Batch, BatchFound, BatchAnswers, BatchStepped}
@@ -29,52 +29,40 @@ measured-batch : {a : Automaton} {z : Sizes} → Measured a z → (x : ℕ) {d e
     → Filling (taskOf z (a .start) (a .destinations) (a .marks)) (numberOf z) x d e k y → Batch a (z .candidate .states) (z .candidate .sets) x d e k y
 measured-batch w x {d} {e} {k} {y} f = subst₂ (λ T num. Filling T num x d e k y) (measured-task w) (measured-number w) f
 
-module _ {a : Automaton} {z : Sizes} (w : Measured a z) (x : ℕ) {d e : List ℕ} {r : Filled} {h : Handed} where
+module _ {a : Automaton} {z : Sizes} (w : Measured a z) (x : ℕ) {d e : List ℕ} {r : Filled} where
   pub line-ended : LineNext (next-clause (taskOf z (a .start) (a .destinations) (a .marks)) (numberOf z) x) d 0 e r → r .end ≡ 0
-      → h ≡ handedOver Ended (r .position) → LineFound a (z .candidate .states) (z .candidate .sets) x d e (h .answer) (h .position)
-  line-ended (written c f v) l q = absurd (omega (arith, v .next, line-some c))
-  line-ended (nothing f v k) l q =
-      subst (λ h. LineFound a (z .candidate .states) (z .candidate .sets) x d e (h .answer) (h .position)) (sym q) (sym (measured-found w x) ∙ f, v)
+      → LineFound a (z .candidate .states) (z .candidate .sets) x d e Ended (r .position)
+  line-ended (written c f v) l = absurd (omega (arith, v .next, line-some c))
+  line-ended (nothing f v k) l = (sym (measured-found w x) ∙ f, v)
 
   pub line-handed : LineNext (next-clause (taskOf z (a .start) (a .destinations) (a .marks)) (numberOf z) x) d 0 e r → r .end ≢ 0
-      → h ≡ handedOver (Written (r .end)) (r .position) → LineFound a (z .candidate .states) (z .candidate .sets) x d e (h .answer) (h .position)
-  line-handed (written c f v) l q =
-      subst (λ h. LineFound a (z .candidate .states) (z .candidate .sets) x d e (h .answer) (h .position)) (sym q) (c, sym (measured-found w x) ∙ f, v)
-  line-handed (nothing f v k) l q = absurd (l k)
+      → LineFound a (z .candidate .states) (z .candidate .sets) x d e (Written (r .end)) (r .position)
+  line-handed (written c f v) l = (c, sym (measured-found w x) ∙ f, v)
+  line-handed (nothing f v k) l = absurd (l k)
 
   pub batch-ended : Filling (taskOf z (a .start) (a .destinations) (a .marks)) (numberOf z) x d e (r .end) (r .position) → r .end ≡ 0
-      → h ≡ handedOver Ended (r .position) → BatchFound a (z .candidate .states) (z .candidate .sets) x d e (h .answer) (h .position)
-  batch-ended f l q =
-      subst (λ h. BatchFound a (z .candidate .states) (z .candidate .sets) x d e (h .answer) (h .position)) (sym q)
-      (subst (λ k. Batch a (z .candidate .states) (z .candidate .sets) x d e k (r .position)) l (measured-batch w x f))
+      → BatchFound a (z .candidate .states) (z .candidate .sets) x d e Ended (r .position)
+  batch-ended f l = subst (λ k. Batch a (z .candidate .states) (z .candidate .sets) x d e k (r .position)) l (measured-batch w x f)
 
   pub batch-handed : Filling (taskOf z (a .start) (a .destinations) (a .marks)) (numberOf z) x d e (r .end) (r .position) → r .end ≢ 0
-      → h ≡ handedOver (Written (r .end)) (r .position) → BatchFound a (z .candidate .states) (z .candidate .sets) x d e (h .answer) (h .position)
-  batch-handed f l q =
-      subst (λ h. BatchFound a (z .candidate .states) (z .candidate .sets) x d e (h .answer) (h .position)) (sym q) (measured-batch w x f, omega arith)
+      → BatchFound a (z .candidate .states) (z .candidate .sets) x d e (Written (r .end)) (r .position)
+  batch-handed f l = (measured-batch w x f, omega arith)
 
 -- ---- the answers
 
-module _ (a : Automaton) (n m x : ℕ) (d : List ℕ) where
-  pub line-refused : {f : Refusal} {r : Handed} → TurnedDown 80 (length d) a n m x f → r ≡ handedOver (Refused f) x → LineStepped a n m x d d r
-  line-refused t e = subst (LineStepped a n m x d d) (sym e) (t, refl, refl)
+module _ (a : Automaton) (n m x : ℕ) (d e : List ℕ) (r : Handed) (k : Accepted 80 (length d) a n m x) where
+  pub line-accepted : LineFound a n m x d e (r .answer) (r .position) → LineStepped a n m x d e r
+  line-accepted f = go (r .answer) f
+    where
+      go : (b : Answer) → LineFound a n m x d e b (r .position) → LineAnswers a n m x d e b (r .position)
+      go (Written l) f = (k, f)
+      go Ended f = (k, f)
+      go (Refused g) f = absurd f
 
-  pub batch-refused : {f : Refusal} {r : Handed} → TurnedDown 80 (length d) a n m x f → r ≡ handedOver (Refused f) x → BatchStepped a n m x d d r
-  batch-refused t e = subst (BatchStepped a n m x d d) (sym e) (t, refl, refl)
-
-  module _ (e : List ℕ) (r : Handed) (k : Accepted 80 (length d) a n m x) where
-    pub line-accepted : LineFound a n m x d e (r .answer) (r .position) → LineStepped a n m x d e r
-    line-accepted f = go (r .answer) f
-      where
-        go : (b : Answer) → LineFound a n m x d e b (r .position) → LineAnswers a n m x d e b (r .position)
-        go (Written l) f = (k, f)
-        go Ended f = (k, f)
-        go (Refused g) f = absurd f
-
-    pub batch-accepted : BatchFound a n m x d e (r .answer) (r .position) → BatchStepped a n m x d e r
-    batch-accepted f = go (r .answer) f
-      where
-        go : (b : Answer) → BatchFound a n m x d e b (r .position) → BatchAnswers a n m x d e b (r .position)
-        go (Written l) f = (k, f)
-        go Ended f = (k, f)
-        go (Refused g) f = absurd f
+  pub batch-accepted : BatchFound a n m x d e (r .answer) (r .position) → BatchStepped a n m x d e r
+  batch-accepted f = go (r .answer) f
+    where
+      go : (b : Answer) → BatchFound a n m x d e b (r .position) → BatchAnswers a n m x d e b (r .position)
+      go (Written l) f = (k, f)
+      go Ended f = (k, f)
+      go (Refused g) f = absurd f

@@ -11,7 +11,7 @@ use lib.IntN.{ℤ}
 use lib.ListN.{length, getD, take, drop, length-append}
 use lib.Seq.{take-at, drop-at}
 use lib.Pow.{pow-mono}
-use Rattle.meaning.specs.Tests.{or-false}
+use Rattle.meaning.specs.TestLaws.{or-false}
 use Rattle.encoding.specs.Variables.{Task}
 use Rattle.encoding.specs.Clauses.{each, _∪_}
 use Rattle.encoding.specs.Loops.{each-same, each-add, each-length}
@@ -21,12 +21,13 @@ use Rattle.decimal.specs.Writing.{wrote-none, wrote-then}
 use Rattle.variables.specs.declared.sizes.Sizes.{Sizes}
 use Rattle.variables.specs.Sizes.{Fitting}
 use Rattle.variables.specs.Numbers.{numberOf}
-use Rattle.clause_list.specs.declared.groups.Indices.{Indices}
-use Rattle.clause_list.specs.declared.position.Extent.{Extent}
+use Rattle.clause_list.specs.declared.indices.Indices.{Indices}
+use Rattle.clause_list.specs.declared.extent.Extent.{Extent}
 use Rattle.clause_list.specs.Tables.{taskOf, Tables}
-use Rattle.clause_list.specs.Groups.{Within, extensionOf}
-use Rattle.clause_list.specs.Indices.{extensions, extensionIndices, extension-within}
-use Rattle.clause_list.specs.Position.{extensionAt, ExtentOf}
+use Rattle.clause_list.specs.Indices.{Within, extensions, extensionIndices, ExtentOf}
+use Rattle.clause_list.specs.Groups.{extensionOf}
+use Rattle.clause_list.specs.Digits.{extension-within}
+use Rattle.clause_list.specs.Position.{extensionAt}
 use Rattle.clause_list.specs.Standing.{at-extension}
 use Rattle.clause_list.specs.Next.{clauses-from}
 use Rattle.clause_list.specs.Following.{next-here}

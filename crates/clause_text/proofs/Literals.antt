@@ -16,8 +16,8 @@ use Rattle.variables.specs.declared.sizes.Sizes.{Sizes}
 use Rattle.variables.specs.Sizes.{Fitting}
 use Rattle.variables.specs.Limits.{candidate-subsets-le, reference-subsets-le}
 use Rattle.variables.specs.Numbers.{InFile, Numbered}
-use Rattle.clause_list.specs.declared.groups.Indices.{Indices}
-use Rattle.clause_list.specs.Groups.{Within, premiseOf}
+use Rattle.clause_list.specs.declared.indices.Indices.{Indices}
+use Rattle.clause_list.specs.Indices.{Within, premiseOf}
 use Rattle.clause_text.specs.Text.{literalText}
 use Rattle.clause_text.specs.LineLength.{literal-le, abs-negated}
 use Rattle.clause_text.specs.Pieces.{spacedText}

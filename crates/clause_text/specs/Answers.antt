@@ -13,7 +13,7 @@ use Rattle.clause_list.specs.Next.{handed, ended}
 use Rattle.clauses.specs.declared.Answer.{Answer}
 use Rattle.clauses.specs.declared.Answer.the-variants.{Written, Ended, Refused}
 use Rattle.clauses.specs.declared.Handed.{Handed}
-use Rattle.clauses.specs.Step.{TurnedDown, Accepted, found-from}
+use Rattle.clauses.specs.Step.{TurnedDown, Accepted, returned, found-from}
 use Rattle.clause_text.specs.Text.{lineText}
 use Rattle.clause_text.specs.Filling.{Filling}
 
@@ -28,7 +28,7 @@ module _ (a : Automaton) (n m x : ℕ) (d e : List ℕ) where
   abbrev pub LineAnswers : Answer → (y : ℕ) → Type 0
   LineAnswers (Written k) y = Accepted 80 (length d) a n m x × LineFound (Written k) y
   LineAnswers Ended y = Accepted 80 (length d) a n m x × LineFound Ended y
-  LineAnswers (Refused f) y = TurnedDown 80 (length d) a n m x f × (y ≡ x) × (e ≡ d)
+  LineAnswers (Refused f) y = TurnedDown 80 (length d) a n m x f (returned (Refused f)) × (y ≡ x) × (e ≡ d)
 
   abbrev pub LineStepped : Handed → Type 0
   LineStepped r = LineAnswers (r .answer) (r .position)
@@ -46,7 +46,7 @@ module _ (a : Automaton) (n m x : ℕ) (d e : List ℕ) where
   abbrev pub BatchAnswers : Answer → (y : ℕ) → Type 0
   BatchAnswers (Written k) y = Accepted 80 (length d) a n m x × BatchFound (Written k) y
   BatchAnswers Ended y = Accepted 80 (length d) a n m x × BatchFound Ended y
-  BatchAnswers (Refused f) y = TurnedDown 80 (length d) a n m x f × (y ≡ x) × (e ≡ d)
+  BatchAnswers (Refused f) y = TurnedDown 80 (length d) a n m x f (returned (Refused f)) × (y ≡ x) × (e ≡ d)
 
   abbrev pub BatchStepped : Handed → Type 0
   BatchStepped r = BatchAnswers (r .answer) (r .position)

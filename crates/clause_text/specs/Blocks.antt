@@ -11,9 +11,8 @@ use Rattle.encoding.specs.Clauses.{each}
 use Rattle.decimal.specs.Wrote.{Wrote}
 use Rattle.variables.specs.declared.sizes.Sizes.{Sizes}
 use Rattle.variables.specs.Numbers.{numberOf}
-use Rattle.clause_list.specs.declared.groups.Indices.{Indices}
-use Rattle.clause_list.specs.Groups.{marksOf}
-use Rattle.clause_list.specs.Indices.{extensions, extensionIndices}
+use Rattle.clause_list.specs.declared.indices.Indices.{Indices}
+use Rattle.clause_list.specs.Indices.{marksOf, extensions, extensionIndices}
 use Rattle.clause_list.specs.Position.{extensionAt}
 use Rattle.clause_text.specs.Text.{lineText, linesText}
 use Rattle.clause_text.specs.Pieces.{spacedText}

@@ -9,10 +9,11 @@ use lib.IntN.{ℤ, pos, negsuc, negℤ, natAbs}
 use lib.ListN.{length, length-append}
 use lib.Pow.{pow-mono}
 use Rattle.meaning.specs.Automata.{Aut, WellFormed}
-use Rattle.meaning.specs.Tests.{all-same}
+use Rattle.meaning.specs.TestLaws.{all-same}
 use Rattle.automaton.specs.declared.Automaton.{Automaton}
 use Rattle.automaton.specs.Value.{Valid}
-use Rattle.automaton.specs.View.{view, view-formed}
+use Rattle.automaton.specs.View.{view}
+use Rattle.automaton.specs.ViewLaws.{view-formed}
 use Rattle.encoding.specs.Variables.{Task, Var, base, base-number, base-variables}
 use Rattle.encoding.specs.Clauses.{not-marks, totality, initial, successor, extension, closure, base-file}
 use Rattle.encoding.specs.Loops.{each-length}

@@ -17,7 +17,7 @@ use Rattle.clause_list.specs.Following.{First, next-first, from-start, position
 use Rattle.clauses.specs.declared.Answer.{Answer}
 use Rattle.clauses.specs.declared.Answer.the-variants.{Written, Ended, Refused}
 use Rattle.clauses.specs.declared.Handed.{Handed}
-use Rattle.clauses.specs.Step.{found-from, last-position}
+use Rattle.clauses.specs.Step.{found-from, fresh-position, last-position}
 use Rattle.clauses.specs.Range.{positions-le, stays-in-range}
 use Rattle.clauses.specs.Refusals.{turned-down-short, Stays, refused-from}
 use Rattle.clause_text.specs.Text.{lineText, linesText}
@@ -118,12 +118,12 @@ module _ (a : Automaton) (n m : ℕ) where
     stays : (x : ℕ) (d e : List ℕ) (r : Handed) → x ≤ last-position → TextStepped a n m x d e r → Stays 80 x d e (r .answer) (r .position)
     stays x d e r h = ⊎-elim (line-stays x d e (r .answer) (r .position) h) (batch-stays x d e (r .answer) (r .position) h)
 
-pub lines-out : {a : Automaton} {n m : ℕ} → Valid a → Dimensioned n m → (cs : List TextCall) → TextCalls a n m 0 cs → LinesOut a n m cs
+pub lines-out : {a : Automaton} {n m : ℕ} → Valid a → Dimensioned n m → (cs : List TextCall) → TextCalls a n m fresh-position cs → LinesOut a n m cs
 lines-out {a} {n} {m} v i cs k =
     let start = ap linesText (from-start (base (view a) n m) (base-number (view a) n m)) in
     record {
-      left = linesText (clauses-from (base (view a) n m) (base-number (view a) n m) (after-all a n m 0 cs));
-      begins = calls-lines a n m 0 cs k ∙ start;
-      whole = λ c j q. calls-whole a n m 0 cs k c j q ∙ start;
-      refused = refused-from (stays a n m v i) 0 cs (omega arith) k;
+      left = linesText (clauses-from (base (view a) n m) (base-number (view a) n m) (after-all a n m fresh-position cs));
+      begins = calls-lines a n m fresh-position cs k ∙ start;
+      whole = λ c j q. calls-whole a n m fresh-position cs k c j q ∙ start;
+      refused = refused-from (stays a n m v i) fresh-position cs (omega arith) k;
     }

@@ -1,4 +1,5 @@
 // The next line, and as many as fit. The reference has been tested: nothing here looks at it again.
+use crate::LINE;
 use crate::block::block_lines;
 use crate::copying::copy;
 use crate::keeping::MIDDLE_BYTES;
@@ -8,14 +9,15 @@ use crate::keeping::PATHS;
 use crate::writing::write_line;
 use automaton::Automaton;
 use automaton::states::ReferenceState;
+use clause_list::extent::Extent;
 use clause_list::next::next_clause;
-use clause_list::position::Extent;
+use clauses::CLAUSE;
 use variables::sizes::Sizes;
 ghost use Prim.Native.Nat.{_+_, _≤_, _<_};
 ghost use lib.ListN.{length};
 ghost use Rattle.variables.specs.Numbers.{numberOf};
 ghost use Rattle.clause_list.specs.Tables.{taskOf, Tables};
-ghost use Rattle.clause_list.specs.Position.{ExtentOf};
+ghost use Rattle.clause_list.specs.Indices.{ExtentOf};
 ghost use Rattle.clause_list.specs.Next.{«next-clause»};
 ghost use Rattle.clause_text.specs.Filling.{Filling};
 ghost use Rattle.clause_text.specs.LineNext.{LineNext, LineIfRoom, Further};
@@ -41,7 +43,7 @@ pub fn next_line(
     requires { ⌜ ExtentOf z g × (at + 80 ≤ length (now text)) ⌝ }
     ensures { λ r. ⌜ LineNext («next-clause» (taskOf z (start .0) (now (destinations .entry)) (now (marks .entry))) (numberOf z) from) (now (text .entry)) at (now (text .exit)) r ⌝ }
 {
-    let mut clause = [0i32; 8];
+    let mut clause = [0i32; CLAUSE];
     let next = next_clause(z, g, start, destinations, marks, from, &mut clause);
     let count = next.length;
     if count == 0 {
@@ -71,7 +73,7 @@ fn next_line_if_room(
     requires { ⌜ ExtentOf z g × (at ≤ length (now text)) ⌝ }
     ensures { λ r. ⌜ LineIfRoom («next-clause» (taskOf z (start .0) (now (destinations .entry)) (now (marks .entry))) (numberOf z) from) from (now (text .entry)) at (now (text .exit)) r ⌝ }
 {
-    let mut line = [0u8; 80];
+    let mut line = [0u8; LINE];
     let next = next_line(z, g, start, destinations, marks, from, &mut line, 0);
     let size = next.end;
     if text.len() - at < size {
@@ -158,7 +160,7 @@ fn more_lines(
     ensures { λ r. ⌜ Further (taskOf z (start .0) (now (destinations .entry)) (now (marks .entry))) (numberOf z) from (now (text .entry)) at (now (text .exit)) (r .end) (r .position) ⌝ }
 {
     let room = text.len() - at;
-    if room < 80 {
+    if room < LINE {
         return next_line_if_room(z, g, start, destinations, marks, from, text, at);
     }
     let before = g.first + g.second;

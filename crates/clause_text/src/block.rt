@@ -1,4 +1,5 @@
 // The lines of group 3 by blocks: over a block q, p, t and u stay, so that the texts of literals are kept.
+use crate::LINE;
 use crate::batch::Filled;
 use crate::keeping::MIDDLE_BYTES;
 use crate::keeping::MIDDLES;
@@ -11,7 +12,7 @@ use crate::order::following;
 use crate::writing::close_line;
 use automaton::Automaton;
 use automaton::states::ReferenceState;
-use clause_list::groups::Indices;
+use clause_list::indices::Indices;
 use clause_list::indices::entry;
 use clause_list::indices::extension_indices;
 use variables::sizes::Sizes;
@@ -22,8 +23,8 @@ ghost use lib.ListN.{length};
 ghost use Rattle.decimal.specs.Wrote.{Wrote};
 ghost use Rattle.variables.specs.Sizes.{Fitting};
 ghost use Rattle.clause_list.specs.Tables.{Tables};
-ghost use Rattle.clause_list.specs.Groups.{Within, extensionOf};
-ghost use Rattle.clause_list.specs.Indices.{extensions, extensionIndices};
+ghost use Rattle.clause_list.specs.Indices.{Within, extensions, extensionIndices};
+ghost use Rattle.clause_list.specs.Groups.{extensionOf};
 ghost use Rattle.clause_text.specs.Text.{lineText};
 ghost use Rattle.clause_text.specs.Kept.{Kept};
 ghost use Rattle.clause_text.specs.Blocks.{pathTexts, middleTexts, ExtensionsShort, Extensions};
@@ -103,7 +104,7 @@ fn lines_from(
         if v.0 >= z.reference.states {
             return Filled { end: to, position };
         }
-        if text.len() - to < 80 {
+        if text.len() - to < LINE {
             return Filled { end: to, position };
         }
         let w = ReferenceState(entry(destinations, v, x.l));

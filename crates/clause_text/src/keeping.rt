@@ -1,11 +1,14 @@
 // Texts of literals, each kept in a slot once it was spelled, and copied from there. A slot whose size is 0 has no text yet.
+use crate::LINE;
 use crate::copying::copy;
 use crate::writing::write_literals;
 use crate::writing::write_spaced;
+use automaton::Automaton;
 use automaton::states::CandidateState;
 use automaton::states::ReferenceState;
-use clause_list::groups::Indices;
-use clause_list::groups::premise;
+use clause_list::indices::Indices;
+use clause_list::premise::premise;
+use clauses::CLAUSE;
 use variables::literals::negative;
 use variables::literals::positive;
 use variables::numbers::path_number;
@@ -18,22 +21,25 @@ ghost use Rattle.encoding.specs.Variables.{path};
 ghost use Rattle.decimal.specs.Wrote.{Wrote};
 ghost use Rattle.variables.specs.Sizes.{Fitting};
 ghost use Rattle.variables.specs.Numbers.{InFile};
-ghost use Rattle.clause_list.specs.Groups.{Within};
+ghost use Rattle.clause_list.specs.Indices.{Within};
 ghost use Rattle.clause_text.specs.Pieces.{spacedText};
 ghost use Rattle.clause_text.specs.Kept.{NoneKept, Kept, Found};
 ghost use Rattle.clause_text.specs.Blocks.{signed, pathLiteral, middleOf, pathSlot, pathTexts, middleSlot, middleTexts};
 
-// Paths from one pair of states to one candidate state: 16 reference states, 16 sets I and 16 sets J. A text has at most 9 bytes.
-pub const PATHS: usize = 4096;
+// The sets of marks that there are at most.
+const MARKINGS: usize = 1 << Automaton::SETS;
+
+// Paths from one pair of states to one candidate state, by a reference state and the sets I and J. A text has at most 9 bytes.
+pub const PATHS: usize = Automaton::STATES * MARKINGS * MARKINGS;
 
 const PATH_WIDTH: usize = 16;
 
 pub const PATH_BYTES: usize = PATHS * PATH_WIDTH;
 
-// Steps between two candidate states with their marks: 16 letters and 16 sets K. No text is longer than a line.
-pub const MIDDLES: usize = 256;
+// Steps between two candidate states with their marks, by a letter and the set K. No text is longer than a line.
+pub const MIDDLES: usize = Automaton::LETTERS * MARKINGS;
 
-const MIDDLE_WIDTH: usize = 80;
+const MIDDLE_WIDTH: usize = LINE;
 
 pub const MIDDLE_BYTES: usize = MIDDLES * MIDDLE_WIDTH;
 
@@ -174,7 +180,7 @@ fn keep_middle(z: Sizes, x: Indices, kept: &mut [u8; MIDDLE_BYTES], at: usize) -
     requires { ⌜ (length (spacedText (middleOf z (x .p .0) (x .t .0) (x .l) (x .k))) ≤ 80) × (at + 80 ≤ 20480) ⌝ }
     ensures { λ r. ⌜ Wrote (now (kept .entry)) at (spacedText (middleOf z (x .p .0) (x .t .0) (x .l) (x .k))) (now (kept .exit)) (at + r) ⌝ }
 {
-    let mut clause = [0i32; 8];
+    let mut clause = [0i32; CLAUSE];
     let count = premise(z, x, &mut clause);
     let end = write_literals(&clause, 1, count, kept, at);
     (end - at) as u8

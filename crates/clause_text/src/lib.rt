@@ -4,11 +4,10 @@ use crate::batch::next_line;
 use automaton::Automaton;
 use automaton::refusal::Refusal;
 use automaton::states::ReferenceState;
-use clause_list::position::extent_of;
+use clause_list::extent::extent_of;
 use clauses::Answer;
 use clauses::Handed;
 use clauses::LAST;
-use clauses::hand_over;
 use variables::sizes::Sized;
 use variables::sizes::Sizes;
 use variables::sizes::measure;
@@ -33,15 +32,24 @@ pub fn line(reference: Automaton, n: usize, m: usize, position: u64, text: &mut 
 {
     let given = text.len();
     if given < LINE {
-        return hand_over(Answer::Refused(Refusal::Short(LINE, given)), position);
+        return Handed {
+            answer: Answer::Refused(Refusal::Short(LINE, given)),
+            position,
+        };
     }
     if position > LAST {
-        return hand_over(Answer::Refused(Refusal::Outside), position);
+        return Handed {
+            answer: Answer::Refused(Refusal::Outside),
+            position,
+        };
     }
     let sized = measure(reference, n, m);
     match sized {
         Sized::Of(z) => one_line(reference, z, position, text),
-        Sized::Refused(refusal) => hand_over(Answer::Refused(refusal), position),
+        Sized::Refused(refusal) => Handed {
+            answer: Answer::Refused(refusal),
+            position,
+        },
     }
 }
 
@@ -51,15 +59,24 @@ pub fn lines(reference: Automaton, n: usize, m: usize, position: u64, text: &mut
 {
     let given = text.len();
     if given < LINE {
-        return hand_over(Answer::Refused(Refusal::Short(LINE, given)), position);
+        return Handed {
+            answer: Answer::Refused(Refusal::Short(LINE, given)),
+            position,
+        };
     }
     if position > LAST {
-        return hand_over(Answer::Refused(Refusal::Outside), position);
+        return Handed {
+            answer: Answer::Refused(Refusal::Outside),
+            position,
+        };
     }
     let sized = measure(reference, n, m);
     match sized {
         Sized::Of(z) => many_lines(reference, z, position, text),
-        Sized::Refused(refusal) => hand_over(Answer::Refused(refusal), position),
+        Sized::Refused(refusal) => Handed {
+            answer: Answer::Refused(refusal),
+            position,
+        },
     }
 }
 
@@ -83,10 +100,17 @@ fn one_line(reference: Automaton, z: Sizes, position: u64, text: &mut [u8]) -> H
         text,
         0,
     );
+    let after = next.position as u64;
     if next.end == 0 {
-        return hand_over(Answer::Ended, next.position as u64);
+        return Handed {
+            answer: Answer::Ended,
+            position: after,
+        };
     }
-    hand_over(Answer::Written(next.end), next.position as u64)
+    Handed {
+        answer: Answer::Written(next.end),
+        position: after,
+    }
 }
 
 fn many_lines(reference: Automaton, z: Sizes, position: u64, text: &mut [u8]) -> Handed
@@ -99,8 +123,15 @@ fn many_lines(reference: Automaton, z: Sizes, position: u64, text: &mut [u8]) ->
     let g = extent_of(z);
     let start = ReferenceState(reference.start);
     let filled = fill(z, g, start, &destinations, &marks, position as usize, text);
+    let after = filled.position as u64;
     if filled.end == 0 {
-        return hand_over(Answer::Ended, filled.position as u64);
+        return Handed {
+            answer: Answer::Ended,
+            position: after,
+        };
     }
-    hand_over(Answer::Written(filled.end), filled.position as u64)
+    Handed {
+        answer: Answer::Written(filled.end),
+        position: after,
+    }
 }

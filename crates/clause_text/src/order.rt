@@ -1,10 +1,10 @@
 // The order of a block's positions.
 use automaton::states::ReferenceState;
-use clause_list::groups::Indices;
+use clause_list::indices::Indices;
 use variables::sizes::Sizes;
 ghost use mathlib.Core.Path.{_≡_};
 ghost use Rattle.variables.specs.Sizes.{Fitting};
-ghost use Rattle.clause_list.specs.Groups.{Within};
+ghost use Rattle.clause_list.specs.Indices.{Within};
 ghost use Rattle.clause_text.specs.Blocks.{Follows};
 
 // The indices of the position after x's. At the end of the block the new v is no state.

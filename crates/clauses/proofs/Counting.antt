@@ -1,7 +1,7 @@
 -- The counts of the header.
 use mathlib.Core.Path.{_≡_, refl, sym, ap, ap₂, _∙_}
 use mathlib.Core.Logic.{_≢_}
-use Prim.Native.Nat.{ℕ, zero, suc, _+_, _-_, _*_, _/_, _%_, _^_, _≤_, _<_}
+use Prim.Native.Nat.{ℕ, _+_, _-_, _*_, _/_, _%_, _^_, _≤_, _<_}
 use native.Mathlib.Nat.{mul-le-mul}
 use native.Mathlib.Numerals.{add-one}
 use native.Mathlib.Omega.{arith}
@@ -19,10 +19,12 @@ use Rattle.variables.specs.declared.sizes.Sizes.{Sizes}
 use Rattle.variables.specs.Sizes.{Dimensioned, Fitting}
 use Rattle.variables.specs.Limits.{candidate-subsets-le}
 use Rattle.variables.specs.Numbers.{counted, lastVariable}
-use Rattle.clause_list.specs.declared.position.Extent.{Extent}
+use Rattle.clause_list.specs.declared.extent.Extent.{Extent}
 use Rattle.variables.specs.Measured.{Measured}
-use Rattle.clause_list.specs.Tables.{tabled, measured-tables}
-use Rattle.clause_list.specs.Position.{ExtentOf}
+use Rattle.clause_list.specs.Tables.{tabled}
+use Rattle.clause_list.specs.Measured.{measured-tables}
+use Rattle.clause_list.specs.Indices.{ExtentOf}
+use Rattle.clauses.specs.FullPairs.{full-pairs-le}
 use Rattle.clauses.specs.ClosureCount.{pairsFor, closureCount, closure-length}
 use Rattle.clauses.specs.declared.header.Totals.{Totals}
 use Rattle.clauses.specs.declared.header.Totals.the-variants.{Of, Refused}
@@ -40,20 +42,12 @@ total-more i h e q = rw (add-one i) (ap₂ _+_ e q)
 
 -- ---- the pairs I, K
 
-pub three-le : (m : ℕ) → m ≤ 4 → 3 ^ m ≤ 2 ^ m * 2 ^ m
-three-le zero h = omega arith
-three-le (suc zero) h = omega arith
-three-le (suc (suc zero)) h = omega arith
-three-le (suc (suc (suc zero))) h = omega arith
-three-le (suc (suc (suc (suc zero)))) h = omega arith
-three-le (suc (suc (suc (suc (suc m))))) h = absurd (omega arith)
-
 module _ {z : Sizes} (f : Fitting z) where
   pub pairs-le : z .candidate .subsets * z .candidate .subsets ≤ 256
   pairs-le = mul-le-mul (candidate-subsets-le f) (candidate-subsets-le f)
 
   pub full-le : {p : ℕ} → p ≡ 3 ^ z .candidate .sets → p ≤ z .candidate .subsets * z .candidate .subsets
-  full-le e = rw (e, f .candidate-subsets) (three-le (z .candidate .sets) (f .m-le))
+  full-le e = rw (e, f .candidate-subsets) (full-pairs-le (z .candidate .sets))
 
   pub pairs-other : {p : ℕ} (u : ℕ) → p ≡ 3 ^ z .candidate .sets → u ≡ z .reference .subsets - 1
       → z .candidate .subsets * z .candidate .subsets - p ≡ pairsFor z u

@@ -2,7 +2,7 @@
 use mathlib.Core.Path.{_≡_, refl, ap, _∙_}
 use mathlib.Core.Bool.{cond, xor}
 use mathlib.Core.List.{List}
-use Prim.Native.Nat.{ℕ, zero, suc, _+_, _-_, _*_, _/_, _%_, _^_, _≤_, _<_}
+use Prim.Native.Nat.{ℕ, _+_, _-_, _*_, _/_, _%_, _^_, _<_}
 use native.Mathlib.Omega.{arith}
 use lib.Dec.{eqb}
 use lib.ListN.{length, getD}
@@ -16,7 +16,8 @@ use Rattle.encoding.specs.Base.{exactly-one-full}
 use Rattle.variables.specs.declared.sizes.Sizes.{Sizes}
 use Rattle.variables.specs.Numbers.{numberOf}
 use Rattle.clause_list.specs.Tables.{tabled, taskOf, Tables}
-use Rattle.clauses.specs.Sums.{total-same, total-swap, total-total, passing, passing-xor}
+use Rattle.clauses.specs.FullPairs.{full-pairs}
+use Rattle.clauses.specs.Sums.{total-same, total-swap, total-total, passing-xor}
 
 module _ (z : Sizes) where
   abbrev M : ℕ
@@ -37,16 +38,6 @@ module _ (z : Sizes) where
   abbrev pub closureCount : List ℕ → ℕ
   closureCount marks = total (z .reference .states * z .letters) (λ y. closuresBy (getD marks (y / z .letters * 16 + y % z .letters) 0))
 
--- the pairs whose union is full
-full-pairs : (m : ℕ) → m ≤ 4 → passing (2 ^ m) (2 ^ m) (λ I K. eqb (I ∪ K) (2 ^ m - 1)) ≡ 3 ^ m
-unfolding total
-full-pairs zero h = refl
-full-pairs (suc zero) h = refl
-full-pairs (suc (suc zero)) h = refl
-full-pairs (suc (suc (suc zero))) h = refl
-full-pairs (suc (suc (suc (suc zero)))) h = refl
-full-pairs (suc (suc (suc (suc (suc m))))) h = absurd (omega arith)
-
 module _ (z : Sizes) (start : ℕ) (destinations marks : List ℕ) (tables : Tables z destinations marks) where
   abbrev m : ℕ
   m = z .candidate .sets
@@ -63,7 +54,7 @@ module _ (z : Sizes) (start : ℕ) (destinations marks : List ℕ) (tables : Tab
       total-same (2 ^ m) _ _ (λ I hI. total-same (2 ^ s) _ _ (λ J hJ. total-same (2 ^ m) _ _ (λ K hK. ap bit (tested I J K hI hJ hK))))
       ∙ total-swap (2 ^ m) (2 ^ s) _
       ∙ total-same (2 ^ s) _ _ (λ J hJ. passing-xor (2 ^ m) (2 ^ m) (λ I K. eqb (I ∪ K) (2 ^ m - 1)) (eqb (J ∪ getD marks (v * 16 + l) 0) (2 ^ s - 1))
-      ∙ ap (λ p. cond (eqb (J ∪ getD marks (v * 16 + l) 0) (2 ^ s - 1)) (2 ^ m * 2 ^ m - p) p) (full-pairs m (tables .fits .m-le)))
+      ∙ ap (λ p. cond (eqb (J ∪ getD marks (v * 16 + l) 0) (2 ^ s - 1)) (2 ^ m * 2 ^ m - p) p) (full-pairs m))
     where
       tested : (I J K : ℕ) → I < 2 ^ m → J < 2 ^ s → K < 2 ^ m
           → exactly-one (taskOf z start destinations marks) v l I J K ≡ xor (eqb (I ∪ K) (2 ^ m - 1)) (eqb (J ∪ getD marks (v * 16 + l) 0) (2 ^ s - 1))

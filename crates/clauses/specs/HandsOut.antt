@@ -16,7 +16,7 @@ use Rattle.clause_list.specs.Next.{Found, clauses-from}
 use Rattle.clause_list.specs.Following.{First, next-first, from-start, position-of}
 use Rattle.clauses.specs.declared.Answer.{Answer}
 use Rattle.clauses.specs.declared.Answer.the-variants.{Written, Ended, Refused}
-use Rattle.clauses.specs.Step.{StepAnswers, found-from, last-position}
+use Rattle.clauses.specs.Step.{StepAnswers, found-from, fresh-position, last-position}
 use Rattle.clauses.specs.Range.{stays-in-range}
 use Rattle.clauses.specs.Calls.{Call, Calls, said, all-said, in-order, HandsOut}
 use Rattle.clauses.specs.Refusals.{turned-down-short, Stays, refused-from}
@@ -55,8 +55,8 @@ module _ (a : Automaton) (n m : ℕ) where
   stays v i x d e Ended y h (ok, (f, w)) = subst (λ f. position-of T num f ≤ last-position) f (stays-in-range v i x h)
   stays v i x d e (Refused f) y h (t, p, w) = (turned-down-short v i h t, p, w)
 
-pub hands-out : {a : Automaton} {n m : ℕ} → Valid a → Dimensioned n m → (cs : List Call) → Calls a n m 0 cs → HandsOut a n m cs
+pub hands-out : {a : Automaton} {n m : ℕ} → Valid a → Dimensioned n m → (cs : List Call) → Calls a n m fresh-position cs → HandsOut a n m cs
 hands-out {a} {n} {m} v i cs k = record {
-  answers = answers-from a n m 0 cs k ∙ ap (λ l. in-order l (length (all-said cs))) (from-start (base (view a) n m) (base-number (view a) n m));
-  refused = refused-from (λ x d e r. stays a n m v i x d e (r .answer) (r .position)) 0 cs (omega arith) k;
+  answers = answers-from a n m fresh-position cs k ∙ ap (λ l. in-order l (length (all-said cs))) (from-start (base (view a) n m) (base-number (view a) n m));
+  refused = refused-from (λ x d e r. stays a n m v i x d e (r .answer) (r .position)) fresh-position cs (omega arith) k;
 }

@@ -5,5 +5,6 @@ pub mod Calls
 pub mod Refusals
 pub mod HandsOut
 pub mod Sums
+pub mod FullPairs
 pub mod ClosureCount
 pub mod Header

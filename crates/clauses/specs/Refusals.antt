@@ -3,9 +3,11 @@
 use mathlib.Core.Path.{_≡_, sym, _∙_, subst}
 use mathlib.Core.List.{List, [], _∷_, List·Memᴰ·cases-cons, List·Memᴰ·not-nil}
 use mathlib.Core.Logic.{⊎-elim}
+use mathlib.Core.Option.{Option}
 use Prim.Native.Nat.{ℕ, _≤_, _<_}
 use lib.ListN.{length}
 use Rattle.automaton.specs.declared.Automaton.{Automaton}
+use Rattle.automaton.specs.declared.refusal.Code.{Code}
 use Rattle.automaton.specs.declared.refusal.Refusal.{Refusal}
 use Rattle.automaton.specs.Value.{Valid}
 use Rattle.variables.specs.Sizes.{Dimensioned}
@@ -16,8 +18,8 @@ use Rattle.clauses.specs.Step.{TurnedDown, short, outside, dimensions, l
 use Rattle.clauses.specs.Calls.{CallOn, CallsOn, RefusedShort}
 
 -- one call at a position in its range
-pub turned-down-short : {a : Automaton} {n m x needed given : ℕ} {f : Refusal} → Valid a → Dimensioned n m → x ≤ last-position
-    → TurnedDown needed given a n m x f → given < needed
+pub turned-down-short : {a : Automaton} {n m x needed given : ℕ} {f : Refusal} {c : Option Code} → Valid a → Dimensioned n m → x ≤ last-position
+    → TurnedDown needed given a n m x f c → given < needed
 turned-down-short v i h (short l) = l
 turned-down-short v i h (outside r l) = absurd (l (v, h))
 turned-down-short v i h (dimensions r u l k) = absurd (k i)

@@ -1,19 +1,23 @@
 -- What the functions that are handed a reference, n and m say after `measure`: the refusal, or the clauses of the reference's file.
 use mathlib.Core.Path.{_≡_, ap₂}
+use mathlib.Core.Option.{Option}
 use Prim.Native.Nat.{ℕ, _≤_}
 use Rattle.automaton.specs.declared.Automaton.{Automaton}
+use Rattle.automaton.specs.declared.refusal.Code.{Code}
 use Rattle.automaton.specs.declared.refusal.Refusal.{Refusal}
 use Rattle.variables.specs.declared.sizes.Sizes.{Sizes}
 use Rattle.variables.specs.Numbers.{numberOf}
 use Rattle.variables.specs.Sizes as sizes
 use Rattle.variables.specs.Sizes.{Refuses}
 use Rattle.variables.specs.Measured.{Measured}
-use Rattle.clause_list.specs.Tables.{taskOf, measured-task, measured-number}
+use Rattle.clause_list.specs.Tables.{taskOf}
+use Rattle.clause_list.specs.Measured.{measured-task, measured-number}
 use Rattle.clause_list.specs.Next.{next-clause}
 use Rattle.clauses.specs.Step.{TurnedDown, outside, dimensions, found-from, last-position}
 
 -- a refusal of the reference, n or m is one of the call
-pub refused-sizes : {a : Automaton} {n m x needed given : ℕ} {f : Refusal} → needed ≤ given → x ≤ last-position → Refuses a n m f → TurnedDown needed given a n m x f
+pub refused-sizes : {a : Automaton} {n m x needed given : ℕ} {f : Refusal} {c : Option Code} → needed ≤ given → x ≤ last-position → Refuses a n m f c
+    → TurnedDown needed given a n m x f c
 refused-sizes h l (sizes.outside v) = outside h (λ (w, i). v w)
 refused-sizes h l (sizes.dimensions v i) = dimensions h v l i
 

@@ -2,8 +2,8 @@
 use automaton::Automaton;
 use automaton::refusal::Refusal;
 use automaton::states::ReferenceState;
+use clause_list::extent::extent_of;
 use clause_list::indices::entry;
-use clause_list::position::extent_of;
 use variables::sizes::Sized;
 use variables::sizes::Sizes;
 use variables::sizes::last_variable;

@@ -2,8 +2,8 @@
 use automaton::Automaton;
 use automaton::refusal::Refusal;
 use automaton::states::ReferenceState;
+use clause_list::extent::extent_of;
 use clause_list::next::next_clause;
-use clause_list::position::extent_of;
 use variables::sizes::Sized;
 use variables::sizes::Sizes;
 use variables::sizes::measure;
@@ -11,7 +11,7 @@ ghost use mathlib.Core.Path.{_≡_};
 ghost use Prim.Native.Nat.{_≤_};
 ghost use lib.ListN.{length};
 ghost use Rattle.variables.specs.Measured.{Measured};
-ghost use Rattle.clauses.specs.Step.{Stepped, StepFound, handedOver};
+ghost use Rattle.clauses.specs.Step.{«fresh-position», Stepped, StepFound};
 
 pub mod header;
 
@@ -29,40 +29,52 @@ pub enum Answer {
     Refused(Refusal),
 }
 
-// The answer, and the position for the next call. The fresh position is 0.
+// The answer, and the position for the next call.
 pub struct Handed {
     pub answer: Answer,
     pub position: u64,
+}
+
+// The position before clause 1.
+pub fn fresh() -> u64
+    ensures { λ r. ⌜ r ≡ «fresh-position» ⌝ }
+{
+    0
 }
 
 // Writes the next clause of the file for the reference, n and m.
 pub fn step(reference: Automaton, n: usize, m: usize, position: u64, clause: &mut [i32]) -> Handed
     ensures { λ r. ⌜ Stepped reference n m position (now (clause .entry)) (now (clause .exit)) r ⌝ }
 {
+    // "A refused step keeps its position."
+    let kept = position;
     let given = clause.len();
     if given < CLAUSE {
-        return hand_over(Answer::Refused(Refusal::Short(CLAUSE, given)), position);
+        return Handed {
+            answer: Answer::Refused(Refusal::Short(CLAUSE, given)),
+            position: kept,
+        };
     }
     if position > LAST {
-        return hand_over(Answer::Refused(Refusal::Outside), position);
+        return Handed {
+            answer: Answer::Refused(Refusal::Outside),
+            position: kept,
+        };
     }
     let sized = measure(reference, n, m);
     match sized {
         Sized::Of(z) => find(reference, z, position, clause),
-        Sized::Refused(refusal) => hand_over(Answer::Refused(refusal), position),
+        Sized::Refused(refusal) => Handed {
+            answer: Answer::Refused(refusal),
+            position: kept,
+        },
     }
-}
-
-pub fn hand_over(answer: Answer, position: u64) -> Handed
-    ensures { λ r. ⌜ r ≡ handedOver answer position ⌝ }
-{
-    Handed { answer, position }
 }
 
 // Where all is in order: z are the file's sizes.
 fn find(reference: Automaton, z: Sizes, position: u64, clause: &mut [i32]) -> Handed
     requires { ⌜ Measured reference z ⌝ }
-    requires { ⌜ (position ≤ 8657059969) × (8 ≤ length (now clause)) ⌝ }
+    requires { ⌜ 8 ≤ length (now clause) ⌝ }
     ensures { λ r. ⌜ StepFound reference (z .candidate .states) (z .candidate .sets) position (now (clause .entry)) (now (clause .exit)) (r .answer) (r .position) ⌝ }
 {
     let destinations = reference.destinations;
@@ -78,8 +90,15 @@ fn find(reference: Automaton, z: Sizes, position: u64, clause: &mut [i32]) -> Ha
         position as usize,
         clause,
     );
+    let after = next.position as u64;
     if next.length == 0 {
-        return hand_over(Answer::Ended, next.position as u64);
+        return Handed {
+            answer: Answer::Ended,
+            position: after,
+        };
     }
-    hand_over(Answer::Written(next.length), next.position as u64)
+    Handed {
+        answer: Answer::Written(next.length),
+        position: after,
+    }
 }

@@ -3,8 +3,10 @@ use mathlib.Core.Path.{_≡_, sym, subst}
 use Prim.Native.Nat.{ℕ, _-_, _%_, _^_, _≤_, min}
 use borrow.Author.Tests.{eq-eqb, eqb-true}
 use lib.Dec.{eqb}
-use Rattle.meaning.specs.Tests.{all, same-truth}
-use Rattle.meaning.specs.BitSet.{has, full-mod, mod-full}
+use Rattle.meaning.specs.Tests.{all}
+use Rattle.meaning.specs.TestLaws.{same-truth}
+use Rattle.meaning.specs.BitSet.{has}
+use Rattle.meaning.specs.BitSetLaws.{full-mod, mod-full}
 use Rattle.automaton.specs.Powers.{power-is}
 
 pub full-bits : (k m f : ℕ) → k ≤ 4 → f ≡ 2 ^ min k 4 → eqb (m % f) (f - 1) ≡ all k (has m)

@@ -7,20 +7,20 @@ use native.Mathlib.Omega.{arith}
 use lib.ListN.{length, drop}
 use Rattle.meaning.specs.Decision.{distinguished}
 use Rattle.automaton.specs.declared.Automaton.{Automaton}
-use Rattle.automaton.specs.declared.refusal.Refusal.the-variants.{Outside, Short, Propositions}
+use Rattle.automaton.specs.declared.refusal.Refusal.the-variants.{Outside, Differ, Short, Propositions}
 use Rattle.automaton.specs.Value.{Valid}
 use Rattle.shortest.specs.declared.Verdict.{Verdict}
-use Rattle.shortest.specs.declared.Verdict.the-variants.{Same as None, Differ as Found}
+use Rattle.shortest.specs.declared.Verdict.the-variants.{Same as None, Differ as Found, Unfit}
 use Rattle.compare.specs.declared.Comparison.{Comparison}
 use Rattle.compare.specs.declared.Comparison.the-variants.{Refused}
-use Rattle.compare.specs.Compared.{Compared}
+use Rattle.compare.specs.Compared.{Compared, returned}
 use Rattle.compare.specs.Searched.{Ready, Searched, answered}
 
 -- refusals: both buffers as they were
 module _ (a b : Automaton) (p l : List ℕ) where
   pub prefix-short : length p < 256 → Compared a b p p l l (Refused (Short 256 (length p)))
   prefix-short h = record {
-    short-prefix = λ g. (refl, refl, refl);
+    short-prefix = λ g. (refl, refl, refl, refl);
     short-loop = λ g. absurd (omega arith);
     outside = λ g. absurd (omega arith);
     letters = λ g. absurd (omega arith);
@@ -32,7 +32,7 @@ module _ (a b : Automaton) (p l : List ℕ) where
     pub loop-short : length l < 1280 → Compared a b p p l l (Refused (Short 1280 (length l)))
     loop-short h = record {
       short-prefix = λ g. absurd (omega arith);
-      short-loop = λ _ g. (refl, refl, refl);
+      short-loop = λ _ g. (refl, refl, refl, refl);
       outside = λ _ g. absurd (omega arith);
       letters = λ _ g. absurd (omega arith);
       same = λ _ g. absurd (omega arith);
@@ -44,7 +44,7 @@ module _ (a b : Automaton) (p l : List ℕ) where
       one-outside n = record {
         short-prefix = λ g. absurd (omega arith);
         short-loop = λ _ g. absurd (omega arith);
-        outside = λ _ _ g. (refl, refl, refl);
+        outside = λ _ _ g. (refl, refl, refl, refl);
         letters = λ _ _ v w. absurd (n (v, w));
         same = λ _ _ v w. absurd (n (v, w));
         differ = λ _ _ v w. absurd (n (v, w));
@@ -55,7 +55,7 @@ module _ (a b : Automaton) (p l : List ℕ) where
         short-prefix = λ g. absurd (omega arith);
         short-loop = λ _ g. absurd (omega arith);
         outside = λ _ _ g. absurd (g (v, w));
-        letters = λ _ _ _ _ g. (refl, refl, refl);
+        letters = λ _ _ _ _ g. (refl, refl, refl, refl);
         same = λ _ _ _ _ g. absurd (n g);
         differ = λ _ _ _ _ g. absurd (n g);
       }
@@ -67,10 +67,10 @@ found R None (agree, ep, el) e = record {
   short-loop = λ _ g. absurd (omega (arith, R .loop-room));
   outside = λ _ _ g. absurd (g (R .valid-a, R .valid-b));
   letters = λ _ _ _ _ g. absurd (g (R .same-propositions));
-  same = λ _ _ _ _ _ _. (e, ep, el);
+  same = λ _ _ _ _ _ _. (e, ep, el, ap returned e);
   differ = λ _ _ _ _ _ g. absurd (g agree);
 }
-found {p = p} {q = q} {l = l} {m = m} R (Found i j) (x, y, ex, ey, ep, el, w) e = record {
+found {p = p} {l = l} R (Found i j) (x, y, ex, ey, ep, el, w) {r} e = record {
   short-prefix = λ g. absurd (omega (arith, R .prefix-room));
   short-loop = λ _ g. absurd (omega (arith, R .loop-room));
   outside = λ _ _ g. absurd (g (R .valid-a, R .valid-b));
@@ -79,9 +79,14 @@ found {p = p} {q = q} {l = l} {m = m} R (Found i j) (x, y, ex, ey, ep, el, w) e 
   differ = λ _ _ _ _ _ _. record {
     x = x;
     y = y;
-    says = rw (ex, ey) e;
+    says = says;
     prefix-is = ep ∙ ap (λ k. x ++ drop k p) (sym ex);
     loop-is = el ∙ ap (λ k. y ++ drop k l) (sym ey);
     witness = w;
+    number = ap returned says;
   };
 }
+  where
+    says : r ≡ Refused (Differ (length x) (length y))
+    says = rw (ex, ey) e
+found R Unfit none e = absurd none

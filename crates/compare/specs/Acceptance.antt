@@ -1,6 +1,6 @@
 -- The table of the sets of marks on which two acceptances differ.
 use mathlib.Core.Path.{_≡_, refl, sym}
-use mathlib.Core.Bool.{Bool, true, false, true≢false}
+use mathlib.Core.Bool.{Bool, true, false, cond, true≢false, Bool·beq}
 use mathlib.Core.List.{List}
 use Prim.Native.Nat.{ℕ, _/_, _%_, _<_}
 use native.Mathlib.Omega.{arith}
@@ -14,6 +14,13 @@ unlike true true = 0
 unlike true false = 1
 unlike false true = 1
 unlike false false = 0
+
+-- by one test whether they are equal
+pub unlike-test : (x y : Bool) → unlike x y ≡ cond (Bool·beq x y) 0 1
+unlike-test true true = refl
+unlike-test true false = refl
+unlike-test false true = refl
+unlike-test false false = refl
 
 pub unlike-zero : (x y : Bool) → unlike x y ≡ 0 → x ≡ y
 unlike-zero true true e = refl

@@ -8,7 +8,8 @@ use lib.ListN.{length}
 use Rattle.meaning.specs.Difference.{short-prefix}
 use Rattle.meaning.specs.Decision.{Difference, flip, shows-every}
 use Rattle.automaton.specs.declared.Automaton.{Automaton}
-use Rattle.automaton.specs.View.{view, view-every}
+use Rattle.automaton.specs.View.{view}
+use Rattle.automaton.specs.ViewLaws.{view-every}
 use Rattle.compare.specs.Compared.{Witness}
 use Rattle.compare.specs.Differences.{Pair, Shown, comparable, shown-difference, difference-shown, shown-distinguishes}
 

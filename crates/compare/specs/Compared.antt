@@ -2,15 +2,23 @@
 use mathlib.Core.Path.{_≡_}
 use mathlib.Core.Logic.{_≢_}
 use mathlib.Core.List.{List, _++_}
+use mathlib.Core.Option.{Option, none, some}
 use Prim.Native.Nat.{ℕ, suc, _*_, _≤_, _<_, max}
 use lib.ListN.{length, drop}
 use Rattle.meaning.specs.Agreement.{Agree, Distinguishes}
 use Rattle.automaton.specs.declared.Automaton.{Automaton}
+use Rattle.automaton.specs.declared.refusal.Code.{Code}
 use Rattle.automaton.specs.declared.refusal.Refusal.the-variants.{Outside, Differ, Short, Propositions}
+use Rattle.automaton.specs.Refused.{row, codeOf}
 use Rattle.automaton.specs.Value.{Valid}
 use Rattle.automaton.specs.View.{view}
 use Rattle.compare.specs.declared.Comparison.{Comparison}
 use Rattle.compare.specs.declared.Comparison.the-variants.{Same, Refused}
+
+-- "Returned (number, a, b)": what an answer returns, or none where nothing is turned down
+abbrev pub returned : Comparison → Option Code
+returned Same = none
+returned (Refused f) = some (codeOf f)
 
 -- a word of document 01's 12: one automaton accepts it and the other rejects it. "With N the product of the two state counts, prefix ≤ N - 1 and
 -- loop ≤ (larger set count + 1)N."
@@ -26,9 +34,9 @@ pub record Room (prefix loop : List ℕ) : Type 0 where
 
 -- what the comparison is asked, and what becomes of it: the answer, and the buffers before and after
 module _ (a b : Automaton) (prefix prefix-after loop loop-after : List ℕ) (answer : Comparison) where
-  -- an answer that leaves both buffers as they were
-  abbrev pub Untouched : Comparison → Type 0
-  Untouched r = (answer ≡ r) × (prefix-after ≡ prefix) × (loop-after ≡ loop)
+  -- an answer that leaves both buffers as they were, and what it returns
+  abbrev pub Untouched : Comparison → Option Code → Type 0
+  Untouched r c = (answer ≡ r) × (prefix-after ≡ prefix) × (loop-after ≡ loop) × (returned answer ≡ c)
 
   -- 12: "On 12 only the stated lengths are written."
   pub record Shown : Type 0 where
@@ -38,13 +46,14 @@ module _ (a b : Automaton) (prefix prefix-after loop loop-after : List ℕ) (ans
     pub prefix-is : prefix-after ≡ x ++ drop (length x) prefix
     pub loop-is : loop-after ≡ y ++ drop (length y) loop
     pub witness : Witness a b x y
+    pub number : returned answer ≡ some (row 12 (length x) (length y))
 
   -- "Order: 13 (prefix before loop), 4 for handed values, .. 14, 12." Buffers: "prefix 256 and loop 1,280".
   pub record Compared : Type 0 where
-    pub short-prefix : length prefix < 256 → Untouched (Refused (Short 256 (length prefix)))
-    pub short-loop : 256 ≤ length prefix → length loop < 1280 → Untouched (Refused (Short 1280 (length loop)))
-    pub outside : 256 ≤ length prefix → 1280 ≤ length loop → ¬ (Valid a × Valid b) → Untouched (Refused Outside)
+    pub short-prefix : length prefix < 256 → Untouched (Refused (Short 256 (length prefix))) (some (row 13 256 (length prefix)))
+    pub short-loop : 256 ≤ length prefix → length loop < 1280 → Untouched (Refused (Short 1280 (length loop))) (some (row 13 1280 (length loop)))
+    pub outside : 256 ≤ length prefix → 1280 ≤ length loop → ¬ (Valid a × Valid b) → Untouched (Refused Outside) (some (row 4 0 0))
     pub letters : 256 ≤ length prefix → 1280 ≤ length loop → Valid a → Valid b → a .propositions ≢ b .propositions
-        → Untouched (Refused (Propositions (a .propositions) (b .propositions)))
-    pub same : 256 ≤ length prefix → 1280 ≤ length loop → Valid a → Valid b → a .propositions ≡ b .propositions → Agree (view a) (view b) → Untouched Same
+        → Untouched (Refused (Propositions (a .propositions) (b .propositions))) (some (row 14 (a .propositions) (b .propositions)))
+    pub same : 256 ≤ length prefix → 1280 ≤ length loop → Valid a → Valid b → a .propositions ≡ b .propositions → Agree (view a) (view b) → Untouched Same none
     pub differ : 256 ≤ length prefix → 1280 ≤ length loop → Valid a → Valid b → a .propositions ≡ b .propositions → ¬ Agree (view a) (view b) → Shown

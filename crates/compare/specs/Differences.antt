@@ -6,7 +6,8 @@ use mathlib.Core.Bool.{true≢false}
 use Prim.Native.Nat.{ℕ, _+_, _*_, _/_, _%_, _^_, _≤_, _<_}
 use native.Mathlib.Decide.{decLt}
 use native.Mathlib.Omega.{arith}
-use Rattle.meaning.specs.Tests.{all, all-same}
+use Rattle.meaning.specs.Tests.{all}
+use Rattle.meaning.specs.TestLaws.{all-same}
 use Rattle.meaning.specs.BitSet.{has}
 use Rattle.meaning.specs.Automata.{Aut}
 use Rattle.meaning.specs.Agreement.{Agree, Comparable, Distinguishes, Over}
@@ -16,9 +17,10 @@ use Rattle.meaning.specs.CycleLemma.{cycles→agree}
 use Rattle.meaning.specs.Decision.{CycleAgrees, Difference, classify, distinguishes, over-A, over-B}
 use Rattle.automaton.specs.declared.Automaton.{Automaton}
 use Rattle.automaton.specs.Value.{Valid, letters}
-use Rattle.automaton.specs.View.{view, view-formed}
+use Rattle.automaton.specs.View.{view}
+use Rattle.automaton.specs.ViewLaws.{view-formed}
 use Rattle.automaton.specs.Powers.{power-le, letters-le}
-use Rattle.shortest.specs.Difference.{entry, met, Shows, InRange, Below16}
+use Rattle.shortest.specs.Difference.{entry, met, Shows, InRange, Below}
 use Rattle.shortest.specs.Met.{met-has, met-lt}
 use Rattle.compare.specs.Acceptance.{Judged, unlike, unlike-zero, zero-unlike}
 
@@ -26,7 +28,7 @@ use Rattle.compare.specs.Acceptance.{Judged, unlike, unlike-zero, zero-u
 
 -- below c in use and 0 elsewhere
 below-16 : (n L c : ℕ) (xs : List ℕ) → c ≤ 16 → ((q l : ℕ) → q < n → l < L → entry xs q l < c)
-    → ((q l : ℕ) → q < 16 → l < 16 → (n ≤ q) ⊎ (L ≤ l) → entry xs q l ≡ 0) → Below16 xs
+    → ((q l : ℕ) → q < 16 → l < 16 → (n ≤ q) ⊎ (L ≤ l) → entry xs q l ≡ 0) → Below 16 xs
 below-16 n L c xs hc below zero q l hq hl = go (decLt q n) (decLt l L)
   where
     unused : (n ≤ q) ⊎ (L ≤ l) → entry xs q l < 16

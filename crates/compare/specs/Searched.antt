@@ -7,17 +7,18 @@ use native.Mathlib.Omega.{arith}
 use lib.ListN.{length, drop}
 use Rattle.meaning.specs.Agreement.{Agree}
 use Rattle.automaton.specs.declared.Automaton.{Automaton}
-use Rattle.automaton.specs.declared.refusal.Refusal.the-variants.{Differ}
+use Rattle.automaton.specs.declared.refusal.Refusal.the-variants.{Outside, Differ}
 use Rattle.automaton.specs.Value.{Valid, letters}
 use Rattle.automaton.specs.View.{view}
+use Rattle.automaton.specs.Powers.{letters-le}
 use Rattle.shortest.specs.declared.Verdict.{Verdict}
-use Rattle.shortest.specs.declared.Verdict.the-variants.{Same as None, Differ as Found}
-use Rattle.shortest.specs.Difference.{Shows}
-use Rattle.shortest.specs.Order.{Answer, Within, Precedes}
+use Rattle.shortest.specs.declared.Verdict.the-variants.{Same as None, Differ as Found, Unfit}
+use Rattle.shortest.specs.Difference.{Shows, Fit}
+use Rattle.shortest.specs.Order.{Answer, Answered, Within, Precedes}
 use Rattle.compare.specs.declared.Comparison.{Comparison}
 use Rattle.compare.specs.declared.Comparison.the-variants.{Same, Refused}
 use Rattle.compare.specs.Compared.{Witness}
-use Rattle.compare.specs.Differences.{Pair, Shown, none-agree}
+use Rattle.compare.specs.Differences.{Pair, Shown, in-range, none-agree}
 use Rattle.compare.specs.Bounds.{fitting, least-witness}
 
 -- two automata that can be compared, and room for every word that may be found
@@ -32,12 +33,14 @@ pub record Ready (a b : Automaton) (p l : ℕ) : Type 0 where
 abbrev pub answered : Verdict → Comparison
 answered None = Same
 answered (Found p l) = Refused (Differ p l)
+answered Unfit = Refused Outside
 
--- the automata agree, or a witness stands in the front of the two buffers
+-- the automata agree, or a witness stands in the front of the two buffers; their tables are never unfit
 abbrev pub Searched : Automaton → Automaton → List ℕ → List ℕ → List ℕ → List ℕ → Verdict → Type 0
 Searched a b prefix prefix-after loop loop-after None = Agree (view a) (view b) × (prefix-after ≡ prefix) × (loop-after ≡ loop)
 Searched a b prefix prefix-after loop loop-after (Found p l) =
     (x : List ℕ) × (y : List ℕ) × (length x ≡ p) × (length y ≡ l) × (prefix-after ≡ x ++ drop p prefix) × (loop-after ≡ y ++ drop l loop) × Witness a b x y
+Searched a b prefix prefix-after loop loop-after Unfit = ⊥
 
 precedes-total : (x y u v : List ℕ) → Precedes x y u v → length x + length y ≤ length u + length v
 precedes-total x y u v (inl h) = omega arith
@@ -46,6 +49,10 @@ precedes-total x y u v (inr h) = omega (arith, h .0)
 -- the words that the search looks for, over L letters
 abbrev pub Looked : Automaton → Automaton → List ℕ → ℕ → List ℕ → List ℕ → Type 0
 Looked a b H L = Shows (a .destinations) (a .marks) (b .destinations) (b .marks) H L (a .start) (b .start)
+
+-- what the search is handed is fit for it
+abbrev pub Handed : Automaton → Automaton → ℕ → Type 0
+Handed a b L = Fit (a .destinations) (a .marks) (b .destinations) (b .marks) L (a .start) (b .start)
 
 -- from these words to the automata
 module _ {a b : Automaton} {H : List ℕ} (T : Pair a b H) (prefix prefix-after loop loop-after : List ℕ) (hp : 256 ≤ length prefix) (hl : 1280 ≤ length loop) where
@@ -65,7 +72,11 @@ module _ {a b : Automaton} {H : List ℕ} (T : Pair a b H) (prefix prefix-after 
     least-witness T (F .x) (F .y) (F .shows .shows) (length prefix) (length loop) hp hl (F .shows .prefix-fits) (F .shows .loop-fits)
         (λ u v S hu hv. precedes-total (F .x) (F .y) u v (F .best u v (record { shows = S; prefix-fits = hu; loop-fits = hv }))),
   )
+  by-verdict Unfit none = none
 
-  pub searched : (L : ℕ) → L ≡ letters a → (r : Verdict) → Answer (Within (length prefix) (length loop) (Looked a b H L)) prefix prefix-after loop loop-after r
+  handed : Handed a b (letters a)
+  handed = record { first = in-range (T .valid-a); second = in-range (T .valid-b); letters = letters-le (T .valid-a) }
+
+  pub searched : (L : ℕ) → L ≡ letters a → (r : Verdict) → Answered (Handed a b L) (Looked a b H L) prefix prefix-after loop loop-after r
       → Searched a b prefix prefix-after loop loop-after r
-  searched L e r A = by-verdict r (subst (λ K. Answer (Within (length prefix) (length loop) (Looked a b H K)) prefix prefix-after loop loop-after r) e A)
+  searched L e r A = by-verdict r (subst (λ K. Answered (Handed a b K) (Looked a b H K) prefix prefix-after loop loop-after r) e A .searched handed)

@@ -1,20 +1,26 @@
 // Where the acceptances of two automata differ.
 use automaton::powers::power_of_two;
+use shortest::HITS;
+use shortest::MARKS;
 ghost use mathlib.Core.Path.{_≡_};
 ghost use Prim.Native.Nat.{_≤_};
 ghost use lib.ListN.{length};
 ghost use Rattle.meaning.specs.Tests.{all};
 ghost use Rattle.meaning.specs.BitSet.{has};
+ghost use Rattle.shortest.specs.Sizes.{hitCount};
 ghost use Rattle.compare.specs.Acceptance.{unlike, Judged};
 
-// The table of the pairs of sets of marks that one automaton accepts and the other does not: that of the first times 16, and that of the second.
+// The table of the pairs of sets of marks that one automaton accepts and the other does not: that of the first times `MARKS`, and that of the second.
 pub fn judge_all(first_sets: usize, second_sets: usize, hits: &mut [u8])
-    requires { ⌜ («first_sets» ≤ 4) × («second_sets» ≤ 4) × (length (now hits) ≡ 256) ⌝ }
+    requires { ⌜ («first_sets» ≤ 4) × («second_sets» ≤ 4) × (length (now hits) ≡ hitCount) ⌝ }
     ensures { λ _. ⌜ Judged «first_sets» «second_sets» (now (hits .exit)) ⌝ }
 {
     let mut m: usize = 0;
-    while m < 256 {
-        hits[m] = judge(accepts(first_sets, m / 16), accepts(second_sets, m % 16));
+    while m < HITS {
+        hits[m] = judge(
+            accepts(first_sets, m / MARKS),
+            accepts(second_sets, m % MARKS),
+        );
         m += 1;
     }
 }
@@ -23,11 +29,10 @@ pub fn judge_all(first_sets: usize, second_sets: usize, hits: &mut [u8])
 fn judge(first: bool, second: bool) -> u8
     ensures { λ r. ⌜ r ≡ unlike first second ⌝ }
 {
-    if first {
-        if second { 0 } else { 1 }
-    } else {
-        if second { 1 } else { 0 }
+    if first == second {
+        return 0;
     }
+    1
 }
 
 // Whether a run that meets just these sets infinitely often is accepting: the one place where acceptance is tested.

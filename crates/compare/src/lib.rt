@@ -2,6 +2,7 @@
 use automaton::Automaton;
 use automaton::powers::power_of_two;
 use automaton::refusal::Refusal;
+use shortest::HITS;
 use shortest::Verdict;
 ghost use mathlib.Core.Path.{_≡_};
 ghost use lib.ListN.{length};
@@ -17,10 +18,10 @@ pub enum Comparison {
 }
 
 impl Comparison {
-    // Bytes of the two lent buffers.
-    pub const PREFIX: usize = 256;
+    // Bytes of the two lent buffers: document 01's bounds of a word, for the largest automata.
+    pub const PREFIX: usize = Automaton::STATES * Automaton::STATES;
 
-    pub const LOOP: usize = 1280;
+    pub const LOOP: usize = (Automaton::SETS + 1) * Comparison::PREFIX;
 }
 
 // Whether two automata agree on every lasso word. Where they do not, a word that shows it is written into `prefix` and `cycle`.
@@ -59,7 +60,7 @@ fn difference(first: Automaton, second: Automaton, prefix: &mut [u8], cycle: &mu
     let first_marks = first.marks;
     let second_next = second.destinations;
     let second_marks = second.marks;
-    let mut hits = [0u8; 256];
+    let mut hits = [0u8; HITS];
     acceptance::judge_all(first.sets, second.sets, &mut hits);
     shortest::difference(
         &first_next,
@@ -75,12 +76,13 @@ fn difference(first: Automaton, second: Automaton, prefix: &mut [u8], cycle: &mu
     )
 }
 
-// What was found, as an answer.
+// What was found, as an answer. Tables that are unfit would be those of a value outside "The automaton"; the values here are not.
 fn answer(verdict: Verdict) -> Comparison
     ensures { λ r. ⌜ r ≡ answered verdict ⌝ }
 {
     match verdict {
         Verdict::Same => Comparison::Same,
         Verdict::Differ(prefix, cycle) => Comparison::Refused(Refusal::Differ(prefix, cycle)),
+        Verdict::Unfit => Comparison::Refused(Refusal::Outside),
     }
 }

@@ -1,17 +1,18 @@
--- DEFINITION: what the programs hold of a text or a word that was read into a lent buffer. Which bytes are read, no contract can say.
+-- DEFINITION: what the programs hold of a text or a word that was read into a lent buffer.
 use mathlib.Core.Path.{_≡_}
 use mathlib.Core.Bool.{true, false}
 use mathlib.Core.List.{List}
-use Prim.Native.Nat.{ℕ, _≤_}
-use lib.ListN.{length, take}
+use Prim.Native.Nat.{ℕ}
+use lib.ListN.{take}
 use Rattle.automaton.specs.declared.Automaton.{Automaton}
 use Rattle.automaton.specs.Value.{empty}
 use Rattle.hoa_text.specs.Grammar.{Result, gives, refuses}
 use Rattle.hoa_text.specs.Reading.{read}
-use Rattle.numerals.specs.declared.Number.{Number}
 use Rattle.numerals.specs.declared.Number.the-variants.{None}
 use Rattle.numerals.specs.Numbers.{numberOf}
 use Rattle.console.specs.declared.input.Given.{Given}
+use Rattle.console.specs.declared.input.Held.{Held}
+use Rattle.console.specs.declared.input.Numbered.{Numbered}
 
 abbrev pub nothing : Given
 nothing = record { accepted = false; automaton = empty }
@@ -21,12 +22,12 @@ abbrev pub given : Result Automaton → Given
 given (gives a) = record { accepted = true; automaton = a }
 given (refuses x) = nothing
 
--- what the text in the first bytes of the buffer gives, or nothing where none could be read
-pub data FromText (buffer : List ℕ) (r : Given) : Type 0 where
-  text : (k : ℕ) → k ≤ length buffer → r ≡ given (read (take k buffer)) → FromText buffer r
-  unread : r ≡ nothing → FromText buffer r
+-- what the text in the first bytes of the buffer gives; nothing only where the text could not be read
+pub record FromText (buffer : List ℕ) (r : Held) : Type 0 where
+  pub text : r .got .whole ≡ true → r .given ≡ given (read (take (r .got .length) buffer))
+  pub unread : r .got .whole ≡ false → r .given ≡ nothing
 
--- the number that the word in its first bytes spells, or none
-pub data FromWord (buffer : List ℕ) (r : Number) : Type 0 where
-  word : (k : ℕ) → k ≤ length buffer → r ≡ numberOf (take k buffer) → FromWord buffer r
-  missing : r ≡ None → FromWord buffer r
+-- the number that the word in its first bytes spells; none where no word could be read
+pub record FromWord (buffer : List ℕ) (r : Numbered) : Type 0 where
+  pub word : r .got .whole ≡ true → r .number ≡ numberOf (take (r .got .length) buffer)
+  pub missing : r .got .whole ≡ false → r .number ≡ None

@@ -1,1 +1,4 @@
+pub mod Got
+pub mod Reading
 pub mod Given
+pub mod Handed

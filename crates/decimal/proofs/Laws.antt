@@ -9,9 +9,9 @@ use borrow.Author.Tests.{lt-ltb, le-ltb}
 use lib.Arith.{lt-of-le-ne}
 use lib.ListN.{length, set}
 use Rattle.decimal.specs.Decimal.{digits, places, decimal}
-use Rattle.decimal.specs.Digits.{ten-pos, digits-first, digits-length, decimal-length}
+use Rattle.decimal.specs.Digits.{ten-pos, digits-first, decimal-length}
 use Rattle.decimal.specs.Wrote.{Wrote, WroteIfRoom}
-use Rattle.decimal.specs.Writing.{wrote-none, wrote-one, wrote-then, wrote-length}
+use Rattle.decimal.specs.Writing.{wrote-none, wrote-one, wrote-then, wrote-length, wrote-roomy, wrote-short}
 
 pub below-ten : (n p : ℕ) → 0 < p → n < p * 10 → n / p < 10
 below-ten n p h q = div-lt-iff-lt-mul {k = p} {x = n} {y = 10} h .1 (rw mul-comm at q)
@@ -74,17 +74,9 @@ begun-all {d₀} {at} {d} {rest} {to} b z =
 
 -- no room: nothing is written
 pub wrote-nothing : (n at : ℕ) (d : List ℕ) (count : ℕ) → count ≡ places 19 1 n → length d < at + count → WroteIfRoom d at (decimal n) d at
-wrote-nothing n at d count e h =
-    record {
-      roomy = λ g. absurd (omega (arith, decimal-length n, e));
-      short = λ g. (refl, refl);
-    }
+wrote-nothing n at d count e h = wrote-short d at (decimal n) (omega (arith, decimal-length n, e))
 
-pub wrote-decimal : (n at : ℕ) {d : List ℕ} {count : ℕ} {f : List ℕ} {r : ℕ} → count ≡ places 19 1 n → at + count ≤ length d → Wrote d at (digits count n) f r
+pub wrote-decimal : (n at : ℕ) {d : List ℕ} {count : ℕ} {f : List ℕ} {r : ℕ} → count ≡ places 19 1 n → Wrote d at (digits count n) f r
     → WroteIfRoom d at (decimal n) f r
 unfolding decimal
-wrote-decimal n at {d} {count} {f} {r} e h p =
-    record {
-      roomy = λ g. subst (λ k. Wrote d at (digits k n) f r) e p;
-      short = λ g. absurd (omega (arith, digits-length (places 19 1 n) n, e));
-    }
+wrote-decimal n at {d} {count} {f} {r} e p = wrote-roomy (subst (λ k. Wrote d at (digits k n) f r) e p)

@@ -1,4 +1,4 @@
--- Laws of writing: nothing, one element, one list after another, into a part of a buffer; the length stays; what is read back.
+-- Laws of writing: nothing, one element, one list after another, into a part of a buffer, where there is room; the length stays; what is read back.
 use mathlib.Core.Path.{_≡_, refl, sym, ap, ap₂, _∙_}
 use mathlib.Core.List.{List, [], _∷_, _++_, append-assoc, append-nil}
 use Prim.Native.Nat.{ℕ, _+_, _-_, _≤_, _<_}
@@ -7,7 +7,7 @@ use native.Mathlib.Numerals.{add-one}
 use native.Mathlib.Omega.{arith}
 use lib.ListN.{length, take, drop, set, length-append, length-take, length-drop, take-append-drop, drop-of-length-le}
 use lib.Seq.{set-split, take-at, drop-at, take-all, drop-drop, take-append-le, drop-append-le}
-use Rattle.decimal.specs.Wrote.{Wrote}
+use Rattle.decimal.specs.Wrote.{Wrote, WroteIfRoom}
 
 module _ {A : Type 0} where
   pub wrote-none : (d : List A) (at : ℕ) → at ≤ length d → Wrote d at [] d at
@@ -35,6 +35,25 @@ module _ {A : Type 0} where
         is = q .is ∙ ap₂ (λ a b. a ++ (w ++ b)) before rest ∙ append-assoc (take at d) v (w ++ drop s d)
             ∙ ap (λ l. take at d ++ l) (sym (append-assoc v w (drop s d)));
       }
+
+  -- a writer that tests for room: there is some, or none
+  pub wrote-roomy : {d : List A} {at : ℕ} {w e : List A} {r : ℕ} → Wrote d at w e r → WroteIfRoom d at w e r
+  wrote-roomy p = record { roomy = λ h. p; short = λ h. absurd (omega (arith, p .next, p .room)) }
+
+  pub wrote-short : (d : List A) (at : ℕ) (w : List A) → length d < at + length w → WroteIfRoom d at w d at
+  wrote-short d at w h = record { roomy = λ g. absurd (omega arith); short = λ g. (refl, refl) }
+
+  -- one writer after the other, where there is room for both
+  pub roomy-then : {d : List A} {at : ℕ} {v e : List A} {r : ℕ} {w f : List A} {s : ℕ} → (at + length v ≤ length d → Wrote d at v e r)
+      → (r + length w ≤ length e → Wrote e r w f s) → at + length (v ++ w) ≤ length d → Wrote d at (v ++ w) f s
+  roomy-then {d} {at} {v} {w = w} p q h =
+      let l = length-append v w in
+      let o = p (omega (arith, l)) in
+      wrote-then o (q (omega (arith, l, o .next, wrote-length o)))
+
+  -- the room that is left behind what was written
+  pub room-left : {d : List A} {at : ℕ} {v e : List A} {r : ℕ} → Wrote d at v e r → (n : ℕ) → at + length v + n ≤ length d → r + n ≤ length e
+  room-left p n h = omega (arith, p .next, wrote-length p)
 
   part-of-front : (p q : List A) (b n : ℕ) → b + n ≤ length p → take n (drop b (p ++ q)) ≡ take n (drop b p)
   part-of-front p q b n h = ap (take n) (drop-append-le b p q (omega arith)) ∙ take-append-le n (drop b p) q (omega (arith, length-drop b p))

@@ -1,12 +1,14 @@
 -- The decoder's answer, by what the reader says at the end of the text and by its verdict.
 use mathlib.Core.Path.{_≡_, refl, sym, ap, _∙_, subst}
 use mathlib.Core.List.{List}
+use mathlib.Core.Option.{none, some}
 use Prim.Native.Nat.{ℕ, _≤_, _<_}
 use native.Mathlib.Omega.{arith}
 use lib.ListN.{length}
 use Rattle.automaton.specs.declared.Automaton.{Automaton}
 use Rattle.automaton.specs.declared.refusal.Refusal.{Refusal}
 use Rattle.automaton.specs.declared.refusal.Refusal.the-variants.{Outside, Dimensions, SolverForm, Short}
+use Rattle.automaton.specs.Refused.{row}
 use Rattle.automaton.specs.Value.{Valid}
 use Rattle.variables.specs.Sizes.{Dimensioned}
 use Rattle.solution.specs.declared.Reader.{Reader}
@@ -20,7 +22,11 @@ use Rattle.solution.specs.declared.scan.Verdict.the-variants.{Unstated, Satisfi
 use Rattle.solution.specs.Calls.{Called}
 use Rattle.decode.specs.declared.Answer.the-variants.{None, Unknown, Refused}
 use Rattle.decode.specs.declared.Decoded.{Decoded}
-use Rattle.decode.specs.Answers.{whole, said, without, Untouched, ByAssignment, ByVerdict, Decodes}
+use Rattle.decode.specs.Answers.{returned, whole, said, without, Untouched, ByAssignment, ByVerdict, Decodes}
+
+-- what an answer returns is told by the answer
+pub untouched : {p l : List ℕ} {x y : Decoded} → x ≡ y → Untouched p p l l x y (returned (y .answer))
+untouched e = (e, refl, refl, ap (λ x. returned (x .answer)) e)
 
 pub accepted-tag : (x : Answer) → tagOf (declared enum) x ≡ 0 → x ≡ Accepted
 accepted-tag Accepted e = refl
@@ -31,10 +37,10 @@ accepted-tag (TurnedDown x) e = absurd (omega arith)
 module _ (p p′ l l′ : List ℕ) (x : Decoded) (a : Automaton) (n m : ℕ) (r : Reader) where
   -- what is said for a verdict
   abbrev pub Answered : Verdict → Type 0
-  Answered Unstated = Untouched p p′ l l′ x (without (Refused (SolverForm (r .scan .at))))
+  Answered Unstated = Untouched p p′ l l′ x (without (Refused (SolverForm (r .scan .at)))) (some (row 9 (r .scan .at) 0))
   Answered Satisfiable = ByAssignment p p′ l l′ x a n m (said r)
-  Answered Unsatisfiable = Untouched p p′ l l′ x (without None)
-  Answered NotKnown = Untouched p p′ l l′ x (without Unknown)
+  Answered Unsatisfiable = Untouched p p′ l l′ x (without None) none
+  Answered NotKnown = Untouched p p′ l l′ x (without Unknown) none
 
 pub answered : {p p′ l l′ : List ℕ} {x : Decoded} {a : Automaton} {n m : ℕ} {r : Reader} (v : Verdict) → r .scan .verdict ≡ v
     → Answered p p′ l l′ x a n m r v → ByVerdict p p′ l l′ x a n m r
@@ -55,7 +61,7 @@ clash f e = let z : _≡_ {A = ℕ} 0 1 = cc in absurd (omega arith)
 module _ (a : Automaton) (n m : ℕ) (r : Reader) (p l : List ℕ) where
   pub prefix-short : {x : Decoded} → length p < 256 → x ≡ without (Refused (Short 256 (length p))) → Decodes p p l l x a n m r
   prefix-short h e = record {
-    short-prefix = λ g. (e, refl, refl);
+    short-prefix = λ g. untouched e;
     short-loop = λ g. absurd (omega arith);
     automaton = λ g. absurd (omega arith);
     state = λ g. absurd (omega arith);
@@ -68,7 +74,7 @@ module _ (a : Automaton) (n m : ℕ) (r : Reader) (p l : List ℕ) where
     pub loop-short : {x : Decoded} → length l < 1280 → x ≡ without (Refused (Short 1280 (length l))) → Decodes p p l l x a n m r
     loop-short h e = record {
       short-prefix = λ g. absurd (omega arith);
-      short-loop = λ _ g. (e, refl, refl);
+      short-loop = λ _ g. untouched e;
       automaton = λ _ g. absurd (omega arith);
       state = λ _ g. absurd (omega arith);
       dimensions = λ _ g. absurd (omega arith);
@@ -82,10 +88,10 @@ module _ (a : Automaton) (n m : ℕ) (r : Reader) (p l : List ℕ) where
       refused-answer {x} f h e = record {
         short-prefix = λ g. absurd (omega arith);
         short-loop = λ _ g. absurd (omega arith);
-        automaton = λ _ _ k. (same Outside (c .automaton k), refl, refl);
-        state = λ _ _ k. (same Outside (c .state k), refl, refl);
-        dimensions = λ _ _ v s k. (same (Dimensions n m) (c .sizes v s k), refl, refl);
-        text = λ d g k. (turned g (sym h ∙ ap (λ z. z .answer) (c .text (d .valid) (d .in-range) (d .sizes)) ∙ k), refl, refl);
+        automaton = λ _ _ k. untouched (same Outside (c .automaton k));
+        state = λ _ _ k. untouched (same Outside (c .state k));
+        dimensions = λ _ _ v s k. untouched (same (Dimensions n m) (c .sizes v s k));
+        text = λ d g k. untouched (turned g (sym h ∙ ap (λ z. z .answer) (c .text (d .valid) (d .in-range) (d .sizes)) ∙ k));
         accepted = λ d k. clash f (sym k ∙ sym (ap (λ z. z .answer) (c .text (d .valid) (d .in-range) (d .sizes))) ∙ h);
       }
         where

@@ -14,7 +14,7 @@ use Rattle.compare.specs.Compared.{Compared, Shown, Room}
 use Rattle.compare.proofs.Comparison.{enum}
 use Rattle.decode.specs.declared.Answer.the-variants.{Refused}
 use Rattle.decode.specs.declared.Decoded.{Decoded}
-use Rattle.decode.specs.Answers.{found, without, Differs, ByComparison}
+use Rattle.decode.specs.Answers.{returned, found, without, Differs, ByComparison}
 use Rattle.decode.specs.Ready.{Comparable}
 
 pub same-tag : (y : Comparison) → tagOf (declared enum) y ≡ 0 → y ≡ Same
@@ -28,7 +28,7 @@ clash f e = let z : _≡_ {A = ℕ} 0 1 = cc in absurd (omega arith)
 module _ {a C : Automaton} {p p′ l l′ : List ℕ} {y : Comparison} {x : Decoded} (v : Comparable C a) (r : Room p l) (c : Compared C a p p′ l l′ y) where
   pub same-found : y ≡ Same → x ≡ found C → ByComparison p p′ l l′ x a C
   same-found e g = record {
-    same = λ agree. let t = c .same (r .prefix-room) (r .loop-room) (v .valid-a) (v .valid-b) (v .same-propositions) agree in (g, t .1, t .2);
+    same = λ agree. let t = c .same (r .prefix-room) (r .loop-room) (v .valid-a) (v .valid-b) (v .same-propositions) agree in (g, t .1, t .2, ap (λ x. returned (x .answer)) g);
     differ = λ no. let s = c .differ (r .prefix-room) (r .loop-room) (v .valid-a) (v .valid-b) (v .same-propositions) no in clash _ (sym e ∙ s .says);
   }
 
@@ -40,13 +40,7 @@ module _ {a C : Automaton} {p p′ l l′ : List ℕ} {y : Comparison} {x : Deco
     where
       shows : Shown C a p p′ l l′ y → Differs p p′ l l′ x a C
       shows s =
-          let i = length (s .x) in
-          let j = length (s .y) in
-          let same : Objects f ≡ Objects (Differ i j) = sym e ∙ s .says in
-          let d : f ≡ Differ i j = cc in
-          record {
-            prefix-length = i;
-            loop-length = j;
-            says = g ∙ ap (λ h. without (Refused h)) d;
-            shown = record { x = s .x; y = s .y; says = refl; prefix-is = s .prefix-is; loop-is = s .loop-is; witness = s .witness };
-          }
+          let same : Objects f ≡ Objects (Differ (length (s .x)) (length (s .y))) = sym e ∙ s .says in
+          let d : f ≡ Differ (length (s .x)) (length (s .y)) = cc in
+          let is : x ≡ without (Refused (Differ (length (s .x)) (length (s .y)))) = g ∙ ap (λ h. without (Refused h)) d in
+          record { comparison = y; shown = s; says = is; number = ap (λ x. returned (x .answer)) is }

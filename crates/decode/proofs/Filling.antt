@@ -10,7 +10,7 @@ use borrow.Author.Tests.{not-true, not-false}
 use lib.Dec.{eqb}
 use lib.ListN.{length, getD, set, length-set}
 use Rattle.meaning.specs.Automata.{Aut}
-use Rattle.meaning.specs.Counting.{filled-next}
+use Rattle.meaning.specs.CountingLaws.{filled-next}
 use Rattle.encoding.specs.Variables.{mark}
 use Rattle.encoding.specs.Clauses.{marks-of, set-of}
 use Rattle.variables.specs.declared.sizes.Sizes.{Sizes}

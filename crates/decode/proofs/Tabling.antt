@@ -2,6 +2,7 @@
 use mathlib.Core.Path.{_≡_, refl, sym, ap, ap₂, _∙_, subst}
 use mathlib.Core.Logic.{_⊎_, inl, inr}
 use mathlib.Core.List.{List}
+use mathlib.Core.Option.{Option}
 use Prim.Native.Nat.{ℕ, _+_, _*_, _/_, _%_, _≤_, _<_}
 use native.Mathlib.Decide.{decLt}
 use native.Mathlib.Omega.{arith}
@@ -9,6 +10,7 @@ use lib.Arith.{digits-div, digits-mod}
 use lib.Dec.{eqb}
 use lib.ListN.{getD}
 use Rattle.automaton.specs.declared.Automaton.{Automaton}
+use Rattle.automaton.specs.declared.refusal.Code.{Code}
 use Rattle.automaton.specs.declared.refusal.Refusal.{Refusal}
 use Rattle.automaton.specs.declared.refusal.Refusal.the-variants.{NoStep}
 use Rattle.automaton.specs.Value.{Valid, letters}
@@ -28,6 +30,7 @@ use Rattle.decode.specs.Value.{steps-lead, lead-steps, decoded-valid}
 use Rattle.decode.specs.Cells.{tableBy, Filled, FilledTo}
 use Rattle.variables.specs.Measured.{Measured, sizing-refused}
 use Rattle.decode.specs.Ready.{Comparable, candidate}
+use Rattle.decode.proofs.Answering.{untouched}
 
 by-sizes : (a : Automaton) (n m : ℕ) (named : List ℕ) → tableBy (sizesOf a n m) named ≡ decodedTable a n m (λ v. eqb (getD named v 0) 1)
 unfolding destination
@@ -115,7 +118,7 @@ module _ {a : Automaton} {z : Sizes} (M : Measured a z) (named : List ℕ) where
     stopped-answer h e = record {
       no-step = λ q l w.
           let (eq, el) = lowest-here a n m (M .valid) ν filled h q l w in
-          (e ∙ ap₂ (λ (i j : ℕ). without (Refused (NoStep i j))) eq el, refl, refl);
+          untouched (e ∙ ap₂ (λ (i j : ℕ). without (Refused (NoStep i j))) eq el);
       table = λ t. absurd (not-all a n m (M .valid) ν filled h t);
     }
 
@@ -153,7 +156,7 @@ module _ {a : Automaton} {z : Sizes} (M : Measured a z) (named : List ℕ) where
 pub sizing-not : {a : Automaton} {n m : ℕ} {y : Sized} {f : Refusal} → Sizing a n m y → y ≡ NoFile f → Valid a → Dimensioned n m → ⊥
 sizing-not {a} {n} {m} s e v d = go (sizing-refused s e)
   where
-    go : {f : Refusal} → Refuses a n m f → ⊥
+    go : {f : Refusal} {c : Option Code} → Refuses a n m f c → ⊥
     go (outside h) = h v
     go (dimensions w h) = h d
 

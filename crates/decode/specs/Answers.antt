@@ -1,23 +1,29 @@
 -- DEFINITION: what the decoder answers, and what it leaves in the two lent buffers.
 use mathlib.Core.Path.{_≡_}
 use mathlib.Core.List.{List}
+use mathlib.Core.Option as option
+use mathlib.Core.Option.{Option, some}
 use Prim.Native.Nat.{ℕ, _≤_, _<_}
 use lib.Dec.{eqb}
 use lib.ListN.{length, getD}
 use Rattle.meaning.specs.Agreement.{Agree}
 use Rattle.automaton.specs.declared.Automaton.{Automaton}
+use Rattle.automaton.specs.declared.refusal.Code.{Code}
 use Rattle.automaton.specs.declared.refusal.Refusal.{Refusal}
 use Rattle.automaton.specs.declared.refusal.Refusal.the-variants.{Outside, Dimensions, SolverForm, NoStep, Differ, Short}
+use Rattle.automaton.specs.Refused.{row, codeOf}
 use Rattle.automaton.specs.Value.{Valid, empty}
 use Rattle.automaton.specs.View.{view}
 use Rattle.encoding.specs.Clauses.{Assignment}
-use Rattle.compare.specs.declared.Comparison.the-variants.{Refused as Objects}
+use Rattle.compare.specs.declared.Comparison.{Comparison}
 use Rattle.compare.specs.Compared.{Shown}
 use Rattle.variables.specs.Sizes.{Dimensioned}
 use Rattle.solution.specs.declared.Reader.{Reader}
 use Rattle.solution.specs.declared.Reply.{Reply}
 use Rattle.solution.specs.declared.Answer.the-variants.{Accepted, Refused as TurnedDown}
 use Rattle.solution.specs.declared.scan.Verdict.the-variants.{Unstated, Satisfiable, Unsatisfiable, Unknown as NotKnown}
+use Rattle.solution.specs.SolverText.{Seen, Outcome, gives, refused}
+use Rattle.solution.specs.Assignment.{asserted}
 use Rattle.solution.specs.Machine.{told, end}
 use Rattle.solution.specs.Calls.{InRange, last, kept}
 use Rattle.decode.specs.declared.Answer.{Answer}
@@ -37,6 +43,13 @@ said r v = eqb (getD (r .named) v 0) 1
 
 -- ---- the answers: with a table, or without
 
+-- "Returned (number, a, b)": what an answer returns, or none where nothing is turned down
+abbrev pub returned : Answer → Option Code
+returned Table = option.none
+returned None = option.none
+returned Unknown = option.none
+returned (Refused f) = some (codeOf f)
+
 abbrev pub found : Automaton → Decoded
 found C = record { answer = Table; table = C }
 
@@ -46,33 +59,33 @@ without x = record { answer = x; table = empty }
 -- The two buffers before and after, and the answer. The records follow document 01's order from the end: the comparison, what an assignment
 -- brings, what a verdict brings, and all of the call.
 module _ (prefix prefix-after loop loop-after : List ℕ) (x : Decoded) where
-  -- an answer that leaves both buffers as they were
-  abbrev pub Untouched : Decoded → Type 0
-  Untouched y = (x ≡ y) × (prefix-after ≡ prefix) × (loop-after ≡ loop)
+  -- an answer that leaves both buffers as they were, with what it returns
+  abbrev pub Untouched : Decoded → Option Code → Type 0
+  Untouched y c = (x ≡ y) × (prefix-after ≡ prefix) × (loop-after ≡ loop) × (returned (x .answer) ≡ c)
 
-  -- 12, with a word as the comparison shows it
+  -- 12, with the comparison's word in the buffers
   pub record Differs (a C : Automaton) : Type 0 where
-    pub prefix-length : ℕ
-    pub loop-length : ℕ
-    pub says : x ≡ without (Refused (Differ prefix-length loop-length))
-    pub shown : Shown C a prefix prefix-after loop loop-after (Objects (Differ prefix-length loop-length))
+    pub comparison : Comparison
+    pub shown : Shown C a prefix prefix-after loop loop-after comparison
+    pub says : x ≡ without (Refused (Differ (length (shown .x)) (length (shown .y))))
+    pub number : returned (x .answer) ≡ some (row 12 (length (shown .x)) (length (shown .y)))
 
   -- "The table is then compared with the reference." It has the reference's propositions, so 14 cannot come.
   pub record ByComparison (a C : Automaton) : Type 0 where
-    pub same : Agree (view C) (view a) → Untouched (found C)
+    pub same : Agree (view C) (view a) → Untouched (found C) option.none
     pub differ : ¬ Agree (view C) (view a) → Differs a C
 
   -- 11, and else the comparison
   pub record ByAssignment (a : Automaton) (n m : ℕ) (ν : Assignment) : Type 0 where
-    pub no-step : (q l : ℕ) → LowestWithout a n m ν q l → Untouched (without (Refused (NoStep q l)))
+    pub no-step : (q l : ℕ) → LowestWithout a n m ν q l → Untouched (without (Refused (NoStep q l))) (some (row 11 q l))
     pub table : AllStep a n m ν → ByComparison a (decodedValue a n m ν)
 
   -- r is what a reader holds at the end of a text that is not turned down. Of a reader that read a text, the verdict is stated; for any
   -- other, "no `s` line" at the end is 9.
   pub record ByVerdict (a : Automaton) (n m : ℕ) (r : Reader) : Type 0 where
-    pub unstated : r .scan .verdict ≡ Unstated → Untouched (without (Refused (SolverForm (r .scan .at))))
-    pub none : r .scan .verdict ≡ Unsatisfiable → Untouched (without None)
-    pub unknown : r .scan .verdict ≡ NotKnown → Untouched (without Unknown)
+    pub unstated : r .scan .verdict ≡ Unstated → Untouched (without (Refused (SolverForm (r .scan .at)))) (some (row 9 (r .scan .at) 0))
+    pub none : r .scan .verdict ≡ Unsatisfiable → Untouched (without None) option.none
+    pub unknown : r .scan .verdict ≡ NotKnown → Untouched (without Unknown) option.none
     pub satisfiable : r .scan .verdict ≡ Satisfiable → ByAssignment a n m (said r)
 
   module _ (a : Automaton) (n m : ℕ) (r : Reader) where
@@ -87,11 +100,21 @@ module _ (prefix prefix-after loop loop-after : List ℕ) (x : Decoded) where
     -- "Order: 13 (prefix before loop), 4 for handed values, 8, then reading left to right, then 11, 14, 12." Buffers: "prefix 256 and loop
     -- 1,280". The text that the reader r has read ends here.
     pub record Decodes : Type 0 where
-      pub short-prefix : length prefix < 256 → Untouched (without (Refused (Short 256 (length prefix))))
-      pub short-loop : 256 ≤ length prefix → length loop < 1280 → Untouched (without (Refused (Short 1280 (length loop))))
-      pub automaton : 256 ≤ length prefix → 1280 ≤ length loop → ¬ Valid a → Untouched (without (Refused Outside))
-      pub state : 256 ≤ length prefix → 1280 ≤ length loop → ¬ InRange r → Untouched (without (Refused Outside))
-      pub dimensions : 256 ≤ length prefix → 1280 ≤ length loop → Valid a → InRange r → ¬ Dimensioned n m → Untouched (without (Refused (Dimensions n m)))
+      pub short-prefix : length prefix < 256 → Untouched (without (Refused (Short 256 (length prefix)))) (some (row 13 256 (length prefix)))
+      pub short-loop : 256 ≤ length prefix → length loop < 1280
+          → Untouched (without (Refused (Short 1280 (length loop)))) (some (row 13 1280 (length loop)))
+      pub automaton : 256 ≤ length prefix → 1280 ≤ length loop → ¬ Valid a → Untouched (without (Refused Outside)) (some (row 4 0 0))
+      pub state : 256 ≤ length prefix → 1280 ≤ length loop → ¬ InRange r → Untouched (without (Refused Outside)) (some (row 4 0 0))
+      pub dimensions : 256 ≤ length prefix → 1280 ≤ length loop → Valid a → InRange r → ¬ Dimensioned n m
+          → Untouched (without (Refused (Dimensions n m))) (some (row 8 n m))
       -- 9 and 10
-      pub text : Admitted → (f : Refusal) → whole a n m r .answer ≡ TurnedDown f → Untouched (without (Refused f))
+      pub text : Admitted → (f : Refusal) → whole a n m r .answer ≡ TurnedDown f → Untouched (without (Refused f)) (some (codeOf f))
       pub accepted : Admitted → whole a n m r .answer ≡ Accepted → ByVerdict a n m (whole a n m r .reader)
+
+-- ---- the answer to a text with this outcome, whatever the pieces in which it came
+pub record OfText (prefix prefix-after loop loop-after : List ℕ) (x : Decoded) (a : Automaton) (n m : ℕ) (o : Outcome) : Type 0 where
+  -- 9 and 10
+  pub refusal : (f : Refusal) → o ≡ refused f → Untouched prefix prefix-after loop loop-after x (without (Refused f)) (some (codeOf f))
+  pub none : (s : Seen) → o ≡ gives s → s .verdict ≡ Unsatisfiable → Untouched prefix prefix-after loop loop-after x (without None) option.none
+  pub unknown : (s : Seen) → o ≡ gives s → s .verdict ≡ NotKnown → Untouched prefix prefix-after loop loop-after x (without Unknown) option.none
+  pub satisfiable : (s : Seen) → o ≡ gives s → s .verdict ≡ Satisfiable → ByAssignment prefix prefix-after loop loop-after x a n m (λ v. asserted v (s .literals))

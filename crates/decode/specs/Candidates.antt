@@ -2,12 +2,12 @@
 -- such candidate is decoded from one, as a value.
 use mathlib.Core.Path.{_≡_, refl, sym, ap, _∙_}
 use mathlib.Core.Logic.{_↔_}
-use Prim.Native.Nat.{ℕ, _^_, _<_}
+use Prim.Native.Nat.{ℕ, _^_}
 use Rattle.meaning.specs.Tests.{all}
-use Rattle.meaning.specs.Agreement.{Agree}
 use Rattle.automaton.specs.declared.Automaton.{Automaton}
-use Rattle.automaton.specs.Value.{Valid, name}
-use Rattle.automaton.specs.View.{view, view-formed}
+use Rattle.automaton.specs.Value.{Valid}
+use Rattle.automaton.specs.View.{view}
+use Rattle.automaton.specs.ViewLaws.{view-formed}
 use Rattle.automaton.specs.Equality.{Same, equal-values}
 use Rattle.encoding.specs.Variables.{base, base-number}
 use Rattle.encoding.specs.Clauses.{Assignment, Satisfies, base-file, Equivalent, SameTable}
@@ -16,21 +16,8 @@ use Rattle.encoding.specs.Base.{base-numbering, base-well-posed, base-encodes}
 use Rattle.encoding.specs.SameTables.{same-agree}
 use Rattle.variables.specs.Sizes.{Dimensioned}
 use Rattle.decode.specs.Table.{decodedTable, decodedValue, AllStep}
+use Rattle.decode.specs.Found.{Candidate, Found}
 use Rattle.decode.specs.Value.{decoded-valid, decoded-view}
-
--- a value with n states, m sets, start 0, and the propositions and names of the reference
-pub record Candidate (a : Automaton) (n m : ℕ) (C : Automaton) : Type 0 where
-  pub valid : Valid C
-  pub states : C .states ≡ n
-  pub sets : C .sets ≡ m
-  pub start : C .start ≡ 0
-  pub propositions : C .propositions ≡ a .propositions
-  pub names : (i : ℕ) → i < a .propositions → name C i ≡ name a i
-
--- one that agrees with the reference on every lasso word
-pub record Found (a : Automaton) (n m : ℕ) (C : Automaton) : Type 0 where
-  pub candidate : Candidate a n m C
-  pub agrees : Agree (view C) (view a)
 
 module _ {a : Automaton} {n m : ℕ} (v : Valid a) (z : Dimensioned n m) where
   pub decoded-candidate : (ν : Assignment) → AllStep a n m ν → Candidate a n m (decodedValue a n m ν)

@@ -1,5 +1,6 @@
 pub mod Table
 pub mod Answers
+pub mod Found
 pub mod Entries
 pub mod Kept
 pub mod Value

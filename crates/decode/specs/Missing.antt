@@ -7,7 +7,8 @@ use native.Mathlib.Omega.{arith}
 use borrow.Author.Count.{below-more}
 use borrow.Author.Tests.{lt-ltb, ltb-true}
 use lib.Dec.{ltb}
-use Rattle.meaning.specs.Tests.{all, all-at, all-of, truth}
+use Rattle.meaning.specs.Tests.{all}
+use Rattle.meaning.specs.TestLaws.{all-at, all-of, truth}
 use Rattle.automaton.specs.declared.Automaton.{Automaton}
 use Rattle.automaton.specs.Value.{letters}
 use Rattle.encoding.specs.Clauses.{Assignment}

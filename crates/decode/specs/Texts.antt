@@ -2,31 +2,30 @@
 use mathlib.Core.Path.{_≡_, refl, sym, ap, _∙_, subst}
 use mathlib.Core.Logic.{_⊎_, inl, inr}
 use mathlib.Core.List.{List}
+use mathlib.Core.Option.{none}
 use Prim.Native.Nat.{ℕ, _≤_, _<_}
 use native.Mathlib.Omega.{arith}
 use lib.Dec.{eqb}
 use lib.ListN.{length, getD}
 use Rattle.automaton.specs.declared.Automaton.{Automaton}
-use Rattle.automaton.specs.declared.refusal.Refusal.{Refusal}
 use Rattle.automaton.specs.Value.{Valid}
 use Rattle.automaton.specs.View.{view}
 use Rattle.encoding.specs.Clauses.{Assignment, Satisfies, base-file}
 use Rattle.variables.specs.Sizes.{Dimensioned}
 use Rattle.solution.specs.declared.Reader.{Reader}
 use Rattle.solution.specs.declared.Reply.{Reply}
-use Rattle.solution.specs.declared.scan.Verdict.the-variants.{Satisfiable, Unsatisfiable, Unknown as NotKnown}
-use Rattle.solution.specs.SolverText.{Seen, Outcome, gives, refused, outcome}
+use Rattle.solution.specs.SolverText.{Outcome, outcome}
 use Rattle.solution.specs.Assignment.{asserted, States}
 use Rattle.solution.specs.Machine.{fresh, told}
-use Rattle.solution.specs.Calls.{InRange, Reads, Ends, last, kept}
+use Rattle.solution.specs.Calls.{InRange, Reads, Ends, joined, last, kept}
+use Rattle.solution.specs.Answered.{called-text}
 use Rattle.solution.specs.Counts.{kept-le}
 use Rattle.solution.specs.Range.{run-kept}
 use Rattle.solution.specs.Table.{table-asserted}
-use Rattle.solution.specs.Pieces.{joined, pieces, fresh-range, Tells, whole-text}
-use Rattle.decode.specs.declared.Answer.the-variants.{None, Unknown, Refused}
+use Rattle.solution.specs.Pieces.{pieces, fresh-range, Tells, whole-text}
 use Rattle.decode.specs.declared.Decoded.{Decoded}
 use Rattle.decode.specs.Table.{decodedValue, LowestWithout}
-use Rattle.decode.specs.Answers.{whole, said, found, without, Untouched, ByComparison, ByAssignment, Admitted, Decodes}
+use Rattle.decode.specs.Answers.{whole, said, found, Untouched, ByComparison, ByAssignment, Admitted, Decodes, OfText}
 use Rattle.decode.specs.Value.{steps-same, all-step-same, decoded-same-value}
 use Rattle.decode.specs.Candidates.{satisfying-steps, satisfying-found}
 use Rattle.solution.specs.Ended.{end-kept, end-again}
@@ -57,20 +56,12 @@ module _ (p p′ l l′ : List ℕ) (x : Decoded) (a : Automaton) (n m : ℕ) (�
 
 -- ---- what the text says
 
--- the answer to a text with this outcome
-pub record OfText (p p′ l l′ : List ℕ) (x : Decoded) (a : Automaton) (n m : ℕ) (o : Outcome) : Type 0 where
-  -- 9 and 10
-  pub refusal : (f : Refusal) → o ≡ refused f → Untouched p p′ l l′ x (without (Refused f))
-  pub none : (s : Seen) → o ≡ gives s → s .verdict ≡ Unsatisfiable → Untouched p p′ l l′ x (without None)
-  pub unknown : (s : Seen) → o ≡ gives s → s .verdict ≡ NotKnown → Untouched p p′ l l′ x (without Unknown)
-  pub satisfiable : (s : Seen) → o ≡ gives s → s .verdict ≡ Satisfiable → ByAssignment p p′ l l′ x a n m (λ v. asserted v (s .literals))
-
 module _ {a : Automaton} {n m : ℕ} (v : Valid a) (z : Dimensioned n m) where
   in-range : {us : List (List ℕ)} {q : Reader} → Reads a n m fresh us q → InRange q
   in-range {us} k = subst InRange (sym (pieces v z fresh-range k)) (run-kept (last a n m) (kept a n m) fresh (joined us) fresh-range)
 
   ends-whole : {q : Reader} → InRange q → Ends a n m q (whole a n m q)
-  ends-whole i = record { automaton = λ k. absurd (k v); state = λ k. absurd (k i); sizes = λ _ _ k. absurd (k z); text = λ _ _ _. refl }
+  ends-whole i = called-text v i z refl
 
   module _ {p p′ l l′ : List ℕ} {x : Decoded} (hp : 256 ≤ length p) (hl : 1280 ≤ length l) where
     -- what a reader holds
@@ -112,15 +103,15 @@ module _ {p p′ l l′ : List ℕ} {x : Decoded} {a : Automaton} {n m : ℕ} (�
 
   -- where it satisfies the file, the table that it decodes to, and both buffers as they were
   pub satisfying-answer : Valid a → Dimensioned n m → Satisfies ν (base-file (view a) n m) → ByAssignment p p′ l l′ x a n m ν
-      → Untouched p p′ l l′ x (found (decodedValue a n m ν))
+      → Untouched p p′ l l′ x (found (decodedValue a n m ν)) none
   satisfying-answer v z s b = b .table (satisfying-steps v z ν s) .same (satisfying-found v z ν s .agrees)
 
 module _ {a : Automaton} {n m : ℕ} (v : Valid a) (z : Dimensioned n m) {p p′ l l′ : List ℕ} {x : Decoded} (hp : 256 ≤ length p) (hl : 1280 ≤ length l)
     (ν : Assignment) (s : Satisfies ν (base-file (view a) n m)) where
   -- for every list of pieces that make up a text which states an assignment that satisfies the file
   module _ {us : List (List ℕ)} {q : Reader} (k : Reads a n m fresh us q) (t : States (last a n m) (kept a n m) (joined us) ν) where
-    pub satisfying-text : Decodes p p′ l l′ x a n m q → Untouched p p′ l l′ x (found (decodedValue a n m ν))
+    pub satisfying-text : Decodes p p′ l l′ x a n m q → Untouched p p′ l l′ x (found (decodedValue a n m ν)) none
     satisfying-text d = satisfying-answer ν v z s (stated-answer ν (joined us) t (text-answer v z hp hl k d))
 
-    pub satisfying-ended : {e : Reply} → Ends a n m q e → Decodes p p′ l l′ x a n m (e .reader) → Untouched p p′ l l′ x (found (decodedValue a n m ν))
+    pub satisfying-ended : {e : Reply} → Ends a n m q e → Decodes p p′ l l′ x a n m (e .reader) → Untouched p p′ l l′ x (found (decodedValue a n m ν)) none
     satisfying-ended c d = satisfying-answer ν v z s (stated-answer ν (joined us) t (ended-answer v z hp hl k c d))

@@ -48,7 +48,7 @@ pub fn fill(
     i
 }
 
-// What stands at the place i, which is that of the state i / 16 and the letter i % 16.
+// What stands at the place i, which is that of the state i / LETTERS and the letter i % LETTERS.
 fn cell_at(z: Sizes, named: &[u8; Reader::SLOTS], i: usize) -> Cell
     requires { ⌜ Fitting z ⌝ }
     ensures { λ r. ⌜ CellOf (tableBy z (now (named .entry))) i r ⌝ }

@@ -2,13 +2,14 @@
 use mathlib.Core.Path.{_≡_, refl}
 use mathlib.Core.Logic.{inl, inr}
 use mathlib.Core.List.{List}
+use mathlib.Core.Option.{Option}
 use Prim.Native.Nat.{ℕ}
 use native.Mathlib.Omega.{arith}
 use lib.IntN.{ℤ}
 use lib.ListN.{length}
 use Rattle.automaton.specs.declared.Automaton.{Automaton}
+use Rattle.automaton.specs.declared.refusal.Code.{Code}
 use Rattle.automaton.specs.declared.refusal.Refusal.{Refusal}
-use Rattle.automaton.specs.Refused.{codeOf}
 use Rattle.variables.specs.Sizes as sizes
 use Rattle.variables.specs.Sizes.{Refuses}
 use Rattle.clauses.specs.declared.Answer.{Answer}
@@ -17,11 +18,11 @@ use Rattle.clauses.specs.declared.Handed.{Handed}
 use Rattle.clauses.specs.declared.header.Totals.{Totals}
 use Rattle.clauses.specs.declared.header.Totals.the-variants as header
 use Rattle.clauses.specs.Step as calls
-use Rattle.clauses.specs.Step.{Stepped, StepAnswers}
-use Rattle.clauses.specs.Header.{Headed}
+use Rattle.clauses.specs.Step.{Stepped, StepAnswers, returned as step-said}
+use Rattle.clauses.specs.Header.{Headed, returned as header-said}
 use Rattle.clause_text.specs.Answers.{LineStepped, LineAnswers, BatchStepped, BatchAnswers}
-use Rattle.demands.specs.Judgement.{TurnedDown, Accepted, Judged}
-use Rattle.demands.specs.Conditions.{to-count, header-said, to-hand-out, step-said}
+use Rattle.demands.specs.Judgement.{Accepted, Judged}
+use Rattle.demands.specs.Conditions.{to-count, to-hand-out}
 use Rattle.demands.specs.Decisions.{judged-refused, judged-accepted}
 
 -- ---- the header
@@ -29,31 +30,31 @@ use Rattle.demands.specs.Decisions.{judged-refused, judged-accepted}
 pub header-judged : (a : Automaton) (n m : ℕ) (answer : Totals) → Headed a n m answer → Judged (to-count a n m) (header-said answer) (Unit {0})
 header-judged a n m answer h = go answer h
   where
-    turned : {f : Refusal} → Refuses a n m f → TurnedDown (to-count a n m) (codeOf f)
-    turned (sizes.outside v) = inl (v, refl)
-    turned (sizes.dimensions v d) = inr (v, inl (d, refl))
+    turned : {f : Refusal} {said : Option Code} → Refuses a n m f said → Judged (to-count a n m) said (Unit {0})
+    turned (sizes.outside v) = judged-refused (inl (v, refl)) refl tt
+    turned (sizes.dimensions v d) = judged-refused (inr (v, inl (d, refl))) refl tt
 
     go : (answer : Totals) → Headed a n m answer → Judged (to-count a n m) (header-said answer) (Unit {0})
     go (header.Of last count) (v, d, t) = judged-accepted (v, (d, tt)) refl
-    go (header.Refused f) t = judged-refused (turned t) refl tt
+    go (header.Refused f) t = turned t
 
 -- ---- clauses and lines
 
 module _ (needed given : ℕ) (a : Automaton) (n m x : ℕ) where
-  turned : {f : Refusal} → calls.TurnedDown needed given a n m x f → TurnedDown (to-hand-out needed given a n m x) (codeOf f)
-  turned (calls.short l) = inl (λ h. omega arith, refl)
-  turned (calls.outside r v) = inr (r, inl (v, refl))
-  turned (calls.dimensions r v p d) = inr (r, inr ((v, p), inl (d, refl)))
+  turned : {kept : Type 0} {f : Refusal} {said : Option Code} → calls.TurnedDown needed given a n m x f said → kept → Judged (to-hand-out needed given a n m x) said kept
+  turned (calls.short l) = judged-refused (inl (λ h. omega arith, refl)) refl
+  turned (calls.outside r v) = judged-refused (inr (r, inl (v, refl))) refl
+  turned (calls.dimensions r v p d) = judged-refused (inr (r, inr ((v, p), inl (d, refl)))) refl
 
   handed : calls.Accepted needed given a n m x → Accepted (to-hand-out needed given a n m x)
   handed t = (t .room, ((t .valid, t .in-range), (t .dimensioned, tt)))
 
   -- what every answer P says of a call is enough
   answer-judged : (P : Answer → Type 0) {kept : Type 0} → ((k : ℕ) → P (Wrote k) → calls.Accepted needed given a n m x) → (P Ended → calls.Accepted needed given a n m x)
-      → ((f : Refusal) → P (Refused f) → calls.TurnedDown needed given a n m x f × kept) → (b : Answer) → P b → Judged (to-hand-out needed given a n m x) (step-said b) kept
+      → ((f : Refusal) → P (Refused f) → calls.TurnedDown needed given a n m x f (step-said (Refused f)) × kept) → (b : Answer) → P b → Judged (to-hand-out needed given a n m x) (step-said b) kept
   answer-judged P wrote ended refused (Wrote k) s = judged-accepted (handed (wrote k s)) refl
   answer-judged P wrote ended refused Ended s = judged-accepted (handed (ended s)) refl
-  answer-judged P wrote ended refused (Refused f) s = let (t, k) = refused f s in judged-refused (turned t) refl k
+  answer-judged P wrote ended refused (Refused f) s = let (t, k) = refused f s in turned t k
 
 module _ (a : Automaton) (n m x : ℕ) where
   pub step-judged : (d e : List ℤ) (r : Handed) → Stepped a n m x d e r → Judged (to-hand-out 8 (length d) a n m x) (step-said (r .answer)) ((r .position ≡ x) × (e ≡ d))

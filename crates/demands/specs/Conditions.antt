@@ -10,44 +10,31 @@ use lib.ListN.{length, drop}
 use Rattle.meaning.specs.Agreement.{Agree}
 use Rattle.automaton.specs.declared.Automaton.{Automaton}
 use Rattle.automaton.specs.declared.refusal.Code.{Code}
-use Rattle.automaton.specs.Refused.{row, codeOf}
+use Rattle.automaton.specs.Refused.{row}
 use Rattle.automaton.specs.Value.{Valid}
 use Rattle.automaton.specs.View.{view}
 use Rattle.encoding.specs.Clauses.{Assignment}
 use Rattle.compare.specs.declared.Comparison.{Comparison}
 use Rattle.compare.specs.declared.Comparison.the-variants as comparison
-use Rattle.hoa_text.specs.Grammar as hoa
-use Rattle.hoa_text.specs.Grammar.{Result}
+use Rattle.compare.specs.Compared.{returned as comparison-said, Witness}
 use Rattle.hoa_text.specs.Reading.{reading}
 use Rattle.hoa_text.specs.Tokens.{tokens}
-use Rattle.hoa_read.specs.declared.Answer as reader
-use Rattle.hoa_read.specs.declared.Answer.the-variants as reading-answer
-use Rattle.hoa_write.specs.declared.Written.{Written}
-use Rattle.hoa_write.specs.declared.Written.the-variants as writer
+use Rattle.hoa_read.specs.Told.{fault as hoa-said}
 use Rattle.variables.specs.Sizes.{Dimensioned}
-use Rattle.clauses.specs.declared.Answer.{Answer}
-use Rattle.clauses.specs.declared.Answer.the-variants as step
-use Rattle.clauses.specs.declared.header.Totals.{Totals}
-use Rattle.clauses.specs.declared.header.Totals.the-variants as header
 use Rattle.clauses.specs.Step.{last-position}
 use Rattle.solution.specs.declared.Reader.{Reader}
 use Rattle.solution.specs.declared.Reply.{Reply}
-use Rattle.solution.specs.declared.Answer as solution
-use Rattle.solution.specs.declared.Answer.the-variants as answer
 use Rattle.solution.specs.declared.scan.Verdict.{Verdict}
 use Rattle.solution.specs.declared.scan.Verdict.the-variants.{Unstated, Satisfiable, Unsatisfiable, Unknown}
-use Rattle.solution.specs.SolverText.{Outcome, gives, refused}
-use Rattle.solution.specs.Calls.{InRange}
-use Rattle.decode.specs.declared.Answer as decoder
+use Rattle.solution.specs.Calls.{InRange, returned as solution-said}
 use Rattle.decode.specs.declared.Answer.the-variants as decoding
 use Rattle.decode.specs.declared.Decoded.{Decoded}
-use Rattle.decode.specs.Answers.{whole, said, found, without}
+use Rattle.decode.specs.Answers.{whole, said, found, without, returned as decoder-said}
 use Rattle.decode.specs.Table.{decodedValue, AllStep, LowestWithout}
 use Rattle.search.specs.declared.Search.{Search}
-use Rattle.search.specs.declared.Answer as search
-use Rattle.search.specs.declared.Answer.the-variants as searching
 use Rattle.search.specs.declared.Reply as state-reply
 use Rattle.search.specs.Replies as state
+use Rattle.search.specs.Replies.{returned as search-said}
 use Rattle.demands.specs.Judgement.{Condition, asks, TurnedDown, Accepted, Judged}
 
 -- ---- the reader of HOA text
@@ -60,14 +47,6 @@ fault-code (some c) = c
 abbrev pub no-fault : Option Code → Condition
 no-fault fault = record { met = fault ≡ none; otherwise = fault-code fault }
 
-abbrev pub hoa-said : Result Automaton → Option Code
-hoa-said (hoa.gives a) = none
-hoa-said (hoa.refuses f) = some (codeOf f)
-
-abbrev pub reader-said : reader.Answer → Option Code
-reader-said reading-answer.Read = none
-reader-said (reading-answer.Refused f) = some (codeOf f)
-
 -- 2: "text over 65,536 bytes (offset 65,536, before reading)"; then left to right, as `hoa_text` defines it: 1 to 4, 5 for a body twice, 6; and after the
 -- whole text 5 and 7
 abbrev pub to-read : (text : List ℕ) → List Condition
@@ -77,10 +56,6 @@ to-read text = asks (length text ≤ 65536) 2 65536 0 ∷ no-fault (hoa-said (re
 
 abbrev pub to-write : (a : Automaton) (given : ℕ) → List Condition
 to-write a given = asks (8192 ≤ given) 13 8192 given ∷ asks (Valid a) 4 0 0 ∷ []
-
-abbrev pub writer-said : Written → Option Code
-writer-said (writer.Text k) = none
-writer-said (writer.Refused f) = some (codeOf f)
 
 -- ---- the comparison: "prefix 256 and loop 1,280"; p and l are the lengths of 12's word
 
@@ -93,10 +68,6 @@ to-compare a b prefix loop p l =
     ∷ asks (Agree (view a) (view b)) 12 p l
     ∷ []
 
-abbrev pub comparison-said : Comparison → Option Code
-comparison-said comparison.Same = none
-comparison-said (comparison.Refused f) = some (codeOf f)
-
 -- "On 12 only the stated lengths are written": the buffer begins with w, and behind it is as it was
 abbrev pub Begins : (w buffer after : List ℕ) → Type 0
 Begins w buffer after = after ≡ w ++ drop (length w) buffer
@@ -107,6 +78,8 @@ pub record JudgesComparison (a b : Automaton) (prefix prefix-after loop loop-aft
   pub y : List ℕ
   pub judged : Judged (to-compare a b (length prefix) (length loop) (length x) (length y)) (comparison-said answer) (Begins x prefix prefix-after × Begins y loop loop-after)
   pub empty : (c : Code) → comparison-said answer ≡ some c → c .number ≢ 12 → (x ≡ []) × (y ≡ [])
+  -- where 12 is said, one of the two accepts the word and the other rejects it, and it keeps document 01's bounds
+  pub shown : (c : Code) → comparison-said answer ≡ some c → c .number ≡ 12 → Witness a b x y
   pub same : answer ≡ comparison.Same → (prefix-after ≡ prefix) × (loop-after ≡ loop)
 
 -- ---- the header, the clause step ("one clause 8 literals"), the clause line ("one clause line 80 bytes") and the batch of lines
@@ -114,32 +87,14 @@ pub record JudgesComparison (a b : Automaton) (prefix prefix-after loop loop-aft
 abbrev pub to-count : (a : Automaton) (n m : ℕ) → List Condition
 to-count a n m = asks (Valid a) 4 0 0 ∷ asks (Dimensioned n m) 8 n m ∷ []
 
-abbrev pub header-said : Totals → Option Code
-header-said (header.Of last count) = none
-header-said (header.Refused f) = some (codeOf f)
-
 abbrev pub to-hand-out : (needed given : ℕ) (a : Automaton) (n m position : ℕ) → List Condition
 to-hand-out needed given a n m position =
     asks (needed ≤ given) 13 needed given ∷ asks (Valid a × (position ≤ last-position)) 4 0 0 ∷ asks (Dimensioned n m) 8 n m ∷ []
-
-abbrev pub step-said : Answer → Option Code
-step-said (step.Written k) = none
-step-said step.Ended = none
-step-said (step.Refused f) = some (codeOf f)
 
 -- ---- the reader of solver text: what it asks before it reads
 
 abbrev pub to-begin : (a : Automaton) (n m : ℕ) (r : Reader) → List Condition
 to-begin a n m r = asks (Valid a × InRange r) 4 0 0 ∷ asks (Dimensioned n m) 8 n m ∷ []
-
-abbrev pub solution-said : solution.Answer → Option Code
-solution-said answer.Accepted = none
-solution-said (answer.Refused f) = some (codeOf f)
-
--- what the definition of solver text gives
-abbrev pub outcome-said : Outcome → Option Code
-outcome-said (gives s) = none
-outcome-said (refused f) = some (codeOf f)
 
 -- A call with the state r is judged before it reads, and then by 9 and 10, as reading gives them. 4 and 8 leave the state as it was; else it is what was read.
 pub record JudgesReading (a : Automaton) (n m : ℕ) (r : Reader) (read reply : Reply) : Type 0 where
@@ -149,12 +104,6 @@ pub record JudgesReading (a : Automaton) (n m : ℕ) (r : Reader) (read reply : 
 
 -- ---- the decoder: the buffers, the reader's conditions, 9 and 10 of the text that it holds, and then what the text states. There is no 14: the table has the
 -- reference's propositions.
-
-abbrev pub decoder-said : decoder.Answer → Option Code
-decoder-said decoding.Table = none
-decoder-said decoding.None = none
-decoder-said decoding.Unknown = none
-decoder-said (decoding.Refused f) = some (codeOf f)
 
 module _ (a : Automaton) (n m : ℕ) (r : Reader) where
   -- the verdict of the text, and the assignment that it states
@@ -193,15 +142,12 @@ pub record JudgesDecoding (a : Automaton) (n m : ℕ) (r : Reader) (prefix prefi
       (Begins x prefix prefix-after × Begins y loop loop-after)
   pub lowest : ¬ AllStep a n m (stated-by a n m r) → LowestWithout a n m (stated-by a n m r) state letter
   pub empty : (c : Code) → decoder-said (answer .answer) ≡ some c → c .number ≢ 12 → (x ≡ []) × (y ≡ [])
+  -- where 12 is said, the word tells the table that is decoded and the reference apart
+  pub shown : (c : Code) → decoder-said (answer .answer) ≡ some c → c .number ≡ 12 → Witness (decodedValue a n m (stated-by a n m r)) a x y
   pub accepted : decoder-said (answer .answer) ≡ none
       → Answers (verdict-of a n m r) (decodedValue a n m (stated-by a n m r)) answer × (prefix-after ≡ prefix) × (loop-after ≡ loop)
 
 -- ---- the search: "A finished search, after 13 and 4, says so", and asks nothing more of a table
-
-abbrev pub search-said : search.Answer → Option Code
-search-said searching.Taken = none
-search-said searching.Finished = none
-search-said (searching.Refused f) = some (codeOf f)
 
 abbrev pub to-start : (a : Automaton) → List Condition
 to-start a = asks (Valid a) 4 0 0 ∷ []
@@ -226,4 +172,6 @@ pub record JudgesFinding (s : Search) (table : Automaton) (prefix prefix-after l
   pub judged : Judged (to-find s table (length prefix) (length loop) (length x) (length y)) (search-said (r .answer))
       ((r .search ≡ s) × Begins x prefix prefix-after × Begins y loop loop-after)
   pub empty : (c : Code) → search-said (r .answer) ≡ some c → c .number ≢ 12 → (x ≡ []) × (y ≡ [])
+  -- where 12 is said, the word tells the found table and the reference apart
+  pub shown : (c : Code) → search-said (r .answer) ≡ some c → c .number ≡ 12 → Witness table (s .reference) x y
   pub accepted : search-said (r .answer) ≡ none → (prefix-after ≡ prefix) × (loop-after ≡ loop)

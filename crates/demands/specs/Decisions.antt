@@ -1,7 +1,7 @@
 -- Conditions are decided one after another, so it is enough to say what is returned where a call is turned down and where it is accepted; and each of
 -- document 01's conditions is decided.
 use mathlib.Core.Path.{_≡_, refl, sym, ap, _∙_, subst}
-use mathlib.Core.Logic.{_⊎_, inl, inr, Dec·and, Dec·of-iff}
+use mathlib.Core.Logic.{_≢_, _⊎_, inl, inr, Dec·and, Dec·of-iff}
 use mathlib.Core.Bool.{Bool, true, false, false≢true}
 use mathlib.Core.List.{List, [], _∷_}
 use mathlib.Core.Option.{Option, none, some, Option·some-inj, Option·some-ne-none}
@@ -12,12 +12,14 @@ use lib.Dec.{leb}
 use lib.ListN.{length, getD}
 use Rattle.meaning.specs.Agreement.{Agree}
 use Rattle.meaning.specs.Decision.{decide-agree}
-use Rattle.meaning.specs.Tests.{all, all-at, all-of}
+use Rattle.meaning.specs.Tests.{all}
+use Rattle.meaning.specs.TestLaws.{all-at, all-of}
 use Rattle.automaton.specs.declared.Automaton.{Automaton}
 use Rattle.automaton.specs.declared.refusal.Code.{Code}
 use Rattle.automaton.specs.Tests.{fits}
 use Rattle.automaton.specs.Value.{Valid}
-use Rattle.automaton.specs.View.{view, view-formed}
+use Rattle.automaton.specs.View.{view}
+use Rattle.automaton.specs.ViewLaws.{view-formed}
 use Rattle.automaton.specs.Meant.{fits-valid, valid-fits}
 use Rattle.variables.specs.Sizes.{Dimensioned}
 use Rattle.solution.specs.declared.Reader.{Reader}
@@ -43,6 +45,10 @@ decision (x ∷ xs) (no h, d) = inl (x .otherwise, inl (h, refl))
 
 pub some-none : {A P : Type 0} {c : A} → some c ≡ none → P
 some-none {c} e = absurd (Option·some-ne-none c e)
+
+-- what is returned has one number
+pub other-number : {P : Type 0} {said : Option Code} {b c : Code} {k : ℕ} → said ≡ some b → b .number ≢ k → said ≡ some c → c .number ≡ k → P
+other-number e other f is = absurd (other (ap (λ (c : Code). c .number) (Option·some-inj .0 (sym e ∙ f)) ∙ is))
 
 -- at most one condition decides
 turned-once : (xs : List Condition) (b c : Code) → TurnedDown xs b → TurnedDown xs c → b ≡ c

@@ -1,6 +1,7 @@
 -- THE KNOWN DECKS of document 01 that are marked P, as one table under one theorem. Its sentences stand in quotes.
 use mathlib.Core.Path.{_≡_, refl}
 use mathlib.Core.List.{_++_}
+use mathlib.Core.Option.{none}
 use Prim.Native.Nat.{ℕ, _≤_}
 use Rattle.automaton.specs.declared.Automaton.{Automaton}
 use Rattle.automaton.specs.declared.refusal.Refusal.the-variants.{SecondEdge, NoEdge}
@@ -11,7 +12,7 @@ use Rattle.encoding.specs.Variables.{base, base-number, base-variables}
 use Rattle.encoding.specs.Clauses.{base-file, Satisfies, destination}
 use Rattle.variables.specs.Sizes.{Dimensioned}
 use Rattle.decode.specs.Answers.{found}
-use Rattle.hoa_text.specs.Basics.{bytes}
+use Rattle.automaton.specs.Bytes.{bytes}
 use Rattle.hoa_text.specs.Labels.{deepest}
 use Rattle.hoa_text.specs.Header.{itemRead}
 use Rattle.hoa_text.specs.Body.{bodyRead}
@@ -22,6 +23,8 @@ use Rattle.demands.specs.DecksFirst.{first-read, first-prints, first-non
 use Rattle.demands.specs.DecksAllRuns.{all-runs, all-runs-read, all-runs-counts, all-runs-some, states-satisfying, one-two-decoded, states-no-step, minus-one-decoded, one-three-refused, one-one-refused}
 use Rattle.demands.specs.DecksBoth.{both-read, counts-one-one, none-one-one, counts-two-one, some-two-one, counts-one-two, some-one-two}
 use Rattle.demands.specs.DecksLargest.{at-most, met, largest, largest-valid}
+
+-- ---- the statement
 
 -- "arguments 1 and 0 (n, m): the clause program prints, header first, `p cnf 3 6`, `1 0`, `2 0`, `-2 -1 2 0`, `-2 -1 2 0`, `-3 -1 3 0`, `-2 -1 0`.
 -- Unsatisfiable. After the header each line is literals and a closing 0."
@@ -36,7 +39,7 @@ pub record AllRuns (a : Automaton) : Type 0 where
   -- "Then `s SATISFIABLE`, LF, and `v 1 2 0` is accepted": it states an assignment that satisfies the file, and the decoder answers the table
   -- of it, which is the reference again
   pub states : Stating a 1 0 (bytes "s SATISFIABLE\nv 1 2 0") (λ ν. Satisfies ν (base-file (view a) 1 0))
-  pub accepted : DecodedAs a 1 0 (bytes "s SATISFIABLE\nv 1 2 0") (found a)
+  pub accepted : DecodedAs a 1 0 (bytes "s SATISFIABLE\nv 1 2 0") (found a) none
   -- "`v -1 2 0`: 11,0,0": it states an assignment in which no p below 1 is where the state 0 goes by the letter 0
   pub states-no-step : Stating a 1 0 (bytes "s SATISFIABLE\nv -1 2 0") (λ ν. destination (base (view a) 1 0) (base-number (view a) 1 0) ν 0 0 ≡ 1)
   pub no-step : DecoderRefuses a 1 0 (bytes "s SATISFIABLE\nv -1 2 0") (row 11 0 0)
@@ -78,7 +81,8 @@ pub record KnownDecks : Type 0 where
   -- "`[0]` then `[t]`: 6,0,1."
   pub second-edge : HoaTextRefused (bytes "HOA: v1 States: 1 Start: 0 AP: 1 \"a\" Acceptance: 0 t --BODY-- State: 0 [0] 0 [t] 0 --END--") (row 6 0 1)
 
--- THE THEOREM
+-- ---- the proof
+
 pub known-decks : KnownDecks
 unfolding read itemRead bodyRead deepest
 known-decks = record {

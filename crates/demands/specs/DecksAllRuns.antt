@@ -3,6 +3,7 @@ use mathlib.Core.Path.{_≡_, refl, sym, ap, subst, _∙_}
 use mathlib.Core.Logic.{⊎-elim}
 use mathlib.Core.Bool.{true, xor, false≢true}
 use mathlib.Core.List.{List, [], _∷_}
+use mathlib.Core.Option.{none}
 use Prim.Native.Nat.{_+_}
 use native.Mathlib.Omega.{arith}
 use lib.Arith.{lt-one}
@@ -16,7 +17,8 @@ use Rattle.automaton.specs.declared.Automaton.{Automaton}
 use Rattle.automaton.specs.declared.refusal.Refusal.the-variants.{Literal, NoStep}
 use Rattle.automaton.specs.Refused.{row}
 use Rattle.automaton.specs.Value.{Valid}
-use Rattle.automaton.specs.View.{view, view-formed}
+use Rattle.automaton.specs.View.{view}
+use Rattle.automaton.specs.ViewLaws.{view-formed}
 use Rattle.encoding.specs.Variables.{base, base-number}
 use Rattle.encoding.specs.Clauses.{each, only, set-of, not-marks, totality, initial, successor, extension, closure, exactly-one, group₁, group₂, group₃, group₄, file, base-file, Assignment, Satisfies, destination}
 use Rattle.variables.specs.Sizes.{Dimensioned}
@@ -26,7 +28,7 @@ use Rattle.solution.specs.Assignment.{asserted}
 use Rattle.solution.specs.Table.{table}
 use Rattle.decode.specs.Table.{decodedValue, AllStep, LowestWithout}
 use Rattle.decode.specs.Answers.{ByComparison, found}
-use Rattle.hoa_text.specs.Basics.{bytes}
+use Rattle.automaton.specs.Bytes.{bytes}
 use Rattle.hoa_text.specs.Grammar as grammar
 use Rattle.hoa_text.specs.Labels.{deepest}
 use Rattle.hoa_text.specs.Header.{itemRead}
@@ -98,7 +100,7 @@ itself : Agree (view all-runs) (view all-runs)
 unfolding CyclesAgree
 itself = let F = view-formed valid in cycles→agree (record { formed-A = F; formed-B = F; same-letters = refl }) (λ x y ox oy ne ca cb. refl)
 
-pub one-two-decoded : DecodedAs all-runs 1 0 (bytes "s SATISFIABLE\nv 1 2 0") (found all-runs)
+pub one-two-decoded : DecodedAs all-runs 1 0 (bytes "s SATISFIABLE\nv 1 2 0") (found all-runs) none
 one-two-decoded q h prefix prefix-after loop loop-after hp hl x d =
     let t = by-assignment valid sizes h hp hl d one-two refl .table one-two-steps in
     subst (λ C. ByComparison prefix prefix-after loop loop-after x all-runs C) one-two-table t .same itself

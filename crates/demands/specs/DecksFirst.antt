@@ -19,7 +19,7 @@ use Rattle.clauses.specs.declared.header.Totals.the-variants.{Of, Refused}
 use Rattle.clauses.specs.Header.{Headed}
 use Rattle.clause_text.specs.Text.{linesText}
 use Rattle.clause_text.specs.LinesOut.{lines-out}
-use Rattle.hoa_text.specs.Basics.{bytes}
+use Rattle.automaton.specs.Bytes.{bytes}
 use Rattle.hoa_text.specs.Grammar.{gives}
 use Rattle.hoa_text.specs.Labels.{deepest}
 use Rattle.hoa_text.specs.Header.{itemRead}

@@ -1,5 +1,5 @@
 -- What a reader and the decoder make of a solver text, in whatever pieces it came: what the text gives by its definition.
-use mathlib.Core.Path.{_≡_, refl, sym, subst, _∙_}
+use mathlib.Core.Path.{_≡_, refl, subst, _∙_}
 use mathlib.Core.List.{List}
 use Prim.Native.Nat.{ℕ, _≤_}
 use lib.Dec.{eqb}
@@ -14,19 +14,17 @@ use Rattle.solution.specs.declared.Reply.{Reply}
 use Rattle.solution.specs.declared.scan.Verdict.the-variants.{Satisfiable}
 use Rattle.solution.specs.SolverText.{Seen, gives, refused, outcome}
 use Rattle.solution.specs.Assignment.{asserted, States}
-use Rattle.solution.specs.Machine.{fresh}
 use Rattle.solution.specs.Calls.{InRange, Ends, last, kept}
-use Rattle.solution.specs.Range.{run-kept}
+use Rattle.solution.specs.Answered.{called-text}
 use Rattle.solution.specs.Table.{table}
-use Rattle.solution.specs.Pieces.{joined, pieces, fresh-range, Tells, whole-text}
+use Rattle.solution.specs.Pieces.{reads-range, Tells, whole-text}
 use Rattle.decode.specs.declared.Decoded.{Decoded}
 use Rattle.decode.specs.Answers.{whole, Decodes, Admitted, ByAssignment}
 use Rattle.demands.specs.DecksWords.{HasRead, SolverTextRefused}
 
 module _ {a : Automaton} {n m : ℕ} (v : Valid a) (z : Dimensioned n m) {text : List ℕ} {q : Reader} (h : HasRead a n m text q) where
   in-range : InRange q
-  in-range =
-      subst InRange (sym (pieces v z fresh-range (h .reads))) (run-kept (last a n m) (kept a n m) fresh (joined (h .pieces)) fresh-range)
+  in-range = reads-range v z (h .reads)
 
   -- the reply at the end tells what the whole text gives
   tells : {e : Reply} → Ends a n m q e → Tells (kept a n m) (outcome (last a n m) (kept a n m) text) e
@@ -34,7 +32,7 @@ module _ {a : Automaton} {n m : ℕ} (v : Valid a) (z : Dimensioned n m) {text :
 
   -- and so does what the decoder takes for it
   whole-tells : Tells (kept a n m) (outcome (last a n m) (kept a n m) text) (whole a n m q)
-  whole-tells = tells (record { automaton = λ u. absurd (u v); state = λ u. absurd (u in-range); sizes = λ w r u. absurd (u z); text = λ w r u. refl })
+  whole-tells = tells (called-text v in-range z refl)
 
   module _ {prefix prefix-after loop loop-after : List ℕ} (hp : 256 ≤ length prefix) (hl : 1280 ≤ length loop) {x : Decoded}
       (d : Decodes prefix prefix-after loop loop-after x a n m q) where

@@ -4,7 +4,7 @@ use mathlib.Core.Logic.{_⊎_, inl, inr, ⊎-elim}
 use mathlib.Core.Bool.{Bool, true, false, _&&_, _||_, false≢true}
 use mathlib.Core.List.{List, [], _∷_, List·Memᴰ·head, List·Memᴰ·tail, List·Memᴰ·not-nil, List·Memᴰ·cases-cons}
 use lib.IntN.{ℤ}
-use Rattle.meaning.specs.Tests.{or-cases, and-left, and-right}
+use Rattle.meaning.specs.TestLaws.{or-cases, and-left, and-right}
 use Rattle.encoding.specs.Clauses.{Assignment, holds, Satisfied, Satisfies}
 
 -- a literal of the clause holds

@@ -1,6 +1,7 @@
 -- DEFINITIONS: what the lines of the table of known decks say, by the definitions that the public contracts cite.
 use mathlib.Core.Path.{_≡_}
 use mathlib.Core.List.{List, [], _++_, List·Memᴰ}
+use mathlib.Core.Option.{Option, some}
 use Prim.Native.Nat.{ℕ, _≤_}
 use lib.ListN.{length}
 use Rattle.automaton.specs.declared.Automaton.{Automaton}
@@ -15,6 +16,7 @@ use Rattle.hoa_text.specs.Reading.{read}
 use Rattle.clauses.specs.declared.Answer.the-variants.{Ended}
 use Rattle.clauses.specs.declared.header.Totals.{Totals}
 use Rattle.clauses.specs.declared.header.Totals.the-variants.{Of, Refused}
+use Rattle.clauses.specs.Step.{fresh-position}
 use Rattle.clauses.specs.Header.{Headed}
 use Rattle.clause_text.specs.Text.{linesText}
 use Rattle.clause_text.specs.Batches.{TextCall, TextCalls, all-bytes}
@@ -24,8 +26,7 @@ use Rattle.solution.specs.declared.Answer.the-variants as reader
 use Rattle.solution.specs.SolverText.{refused, outcome}
 use Rattle.solution.specs.Assignment.{States}
 use Rattle.solution.specs.Machine.{fresh}
-use Rattle.solution.specs.Calls.{Reads, Ends, last, kept}
-use Rattle.solution.specs.Pieces.{joined}
+use Rattle.solution.specs.Calls.{Reads, Ends, joined, last, kept}
 use Rattle.decode.specs.declared.Decoded.{Decoded}
 use Rattle.decode.specs.declared.Answer.the-variants as decode
 use Rattle.decode.specs.Answers.{Decodes, Untouched, without}
@@ -62,7 +63,7 @@ pub record Prints (a : Automaton) (n m : ℕ) (text : List ℕ) : Type 0 where
   -- the text of the file
   pub file : headerLine (base-variables (view a) n m) (length (base-file (view a) n m)) ++ linesText (base-file (view a) n m) ≡ text
   -- so that of what the header answers, and then of all that calls for lines write until one says "ended"
-  pub calls : (t : Totals) → Headed a n m t → (cs : List TextCall) → TextCalls a n m 0 cs → (c : TextCall) → List·Memᴰ c cs → c .result .answer ≡ Ended
+  pub calls : (t : Totals) → Headed a n m t → (cs : List TextCall) → TextCalls a n m fresh-position cs → (c : TextCall) → List·Memᴰ c cs → c .result .answer ≡ Ended
       → headerText t ++ all-bytes cs ≡ text
 
 -- ---- solver text
@@ -78,15 +79,15 @@ pub record HasRead (a : Automaton) (n m : ℕ) (text : List ℕ) (q : Reader) : 
   pub whole : joined pieces ≡ text
   pub reads : Reads a n m fresh pieces q
 
--- what the decoder answers, where no buffer is short; the buffers stay as they were
-abbrev pub DecodedAs : (a : Automaton) (n m : ℕ) → List ℕ → Decoded → Type 0
-DecodedAs a n m text y =
+-- what the decoder answers and returns, where no buffer is short; the buffers stay as they were
+abbrev pub DecodedAs : (a : Automaton) (n m : ℕ) → List ℕ → Decoded → Option Code → Type 0
+DecodedAs a n m text y c =
     (q : Reader) → HasRead a n m text q → (prefix prefix-after loop loop-after : List ℕ) → 256 ≤ length prefix → 1280 ≤ length loop → (x : Decoded)
-    → Decodes prefix prefix-after loop loop-after x a n m q → Untouched prefix prefix-after loop loop-after x y
+    → Decodes prefix prefix-after loop loop-after x a n m q → Untouched prefix prefix-after loop loop-after x y c
 
 -- it answers with this number and these two values
 abbrev pub DecoderRefuses : (a : Automaton) (n m : ℕ) → List ℕ → Code → Type 0
-DecoderRefuses a n m text c = (f : Refusal) × (codeOf f ≡ c) × DecodedAs a n m text (without (decode.Refused f))
+DecoderRefuses a n m text c = (f : Refusal) × (codeOf f ≡ c) × DecodedAs a n m text (without (decode.Refused f)) (some c)
 
 -- 9 and 10: the text itself is turned down, by its definition, by the reader at its end and by the decoder
 pub record SolverTextRefused (a : Automaton) (n m : ℕ) (text : List ℕ) (c : Code) : Type 0 where
@@ -94,4 +95,4 @@ pub record SolverTextRefused (a : Automaton) (n m : ℕ) (text : List ℕ) (c : 
   pub code : codeOf refusal ≡ c
   pub of-text : outcome (last a n m) (kept a n m) text ≡ refused refusal
   pub reply : (q : Reader) → HasRead a n m text q → (e : Reply) → Ends a n m q e → e .answer ≡ reader.Refused refusal
-  pub decoder : DecodedAs a n m text (without (decode.Refused refusal))
+  pub decoder : DecodedAs a n m text (without (decode.Refused refusal)) (some c)

@@ -1,8 +1,8 @@
 -- The decoder is judged by its conditions.
 use mathlib.Core.Path.{_≡_, refl, sym, ap, _∙_, subst}
-use mathlib.Core.Logic.{_⊎_, inl, inr, Dec·and, Dec·not, Dec·not-not}
+use mathlib.Core.Logic.{_≢_, _⊎_, inl, inr, ⊎-elim, Dec·and, Dec·not, Dec·not-not}
 use mathlib.Core.List.{List, []}
-use mathlib.Core.Option.{none, some, Option·some-inj}
+use mathlib.Core.Option.{Option, none, some, Option·some-inj}
 use Prim.Native.Nat.{ℕ, _≤_}
 use native.Mathlib.Decide.{decLe}
 use native.Mathlib.Omega.{arith}
@@ -11,7 +11,7 @@ use Rattle.automaton.specs.declared.Automaton.{Automaton}
 use Rattle.automaton.specs.declared.refusal.Code.{Code}
 use Rattle.automaton.specs.declared.refusal.Refusal.{Refusal}
 use Rattle.automaton.specs.declared.refusal.Refusal.the-variants.{Outside}
-use Rattle.automaton.specs.Refused.{codeOf}
+use Rattle.automaton.specs.Refused.{row, codeOf}
 use Rattle.automaton.specs.Value.{Valid}
 use Rattle.encoding.specs.Clauses.{Assignment}
 use Rattle.variables.specs.Sizes.{Dimensioned}
@@ -20,16 +20,18 @@ use Rattle.solution.specs.declared.Answer as solution
 use Rattle.solution.specs.declared.Answer.the-variants as reading
 use Rattle.solution.specs.declared.scan.Verdict.{Verdict}
 use Rattle.solution.specs.declared.scan.Verdict.the-variants.{Unstated, Satisfiable, Unsatisfiable, Unknown}
-use Rattle.solution.specs.Calls.{InRange}
+use Rattle.solution.specs.Machine.{end}
+use Rattle.solution.specs.Calls.{InRange, last, kept, returned as solution-said}
 use Rattle.decode.specs.declared.Answer.the-variants.{Refused}
 use Rattle.decode.specs.declared.Decoded.{Decoded}
-use Rattle.decode.specs.Answers.{whole, without, Untouched, Admitted, ByVerdict, Decodes}
+use Rattle.decode.specs.Answers.{whole, without, Untouched, Admitted, ByVerdict, Decodes, returned as decoder-said}
 use Rattle.decode.specs.Table.{decodedValue, AllStep, LowestWithout}
 use Rattle.decode.specs.Value.{decoded-valid}
 use Rattle.decode.specs.Missing.{all-or-lowest}
 use Rattle.demands.specs.Judgement.{TurnedDown, Accepted}
-use Rattle.demands.specs.Conditions.{comparison-said, fault-code, solution-said, decoder-said, verdict-of, stated-by, to-decode, Answers, JudgesDecoding}
-use Rattle.demands.specs.Decisions.{Decided, fault-decided, decision, some-none, judged-refused, judged-accepted, valid-decided, in-range-decided, dimensioned-decided, agree-decided}
+use Rattle.demands.specs.Conditions.{fault-code, verdict-of, stated-by, to-decode, Answers, JudgesDecoding}
+use Rattle.demands.specs.SolverTextJudged.{fault-number}
+use Rattle.demands.specs.Decisions.{Decided, fault-decided, decision, some-none, other-number, judged-refused, judged-accepted, valid-decided, in-range-decided, dimensioned-decided, agree-decided}
 
 -- ---- verdicts
 
@@ -77,13 +79,13 @@ module _ {prefix prefix-after loop loop-after : List ℕ} {answer : Decoded} {a 
   abbrev Result : Type 0
   Result = JudgesDecoding a n m r prefix prefix-after loop loop-after answer
 
-  abbrev Kept : Decoded → Type 0
+  abbrev Kept : Decoded → Option Code → Type 0
   Kept = Untouched prefix prefix-after loop loop-after answer
 
-  outside : 256 ≤ length prefix → 1280 ≤ length loop → ¬ (Valid a × InRange r) → Kept (without (Refused Outside))
+  outside : 256 ≤ length prefix → 1280 ≤ length loop → ¬ (Valid a × InRange r) → Kept (without (Refused Outside)) (some (row 4 0 0))
   outside h g k = go (valid-decided a)
     where
-      go : Dec (Valid a) → Kept (without (Refused Outside))
+      go : Dec (Valid a) → Kept (without (Refused Outside)) (some (row 4 0 0))
       go (yes v) = d .state h g (λ i. k (v, i))
       go (no v) = d .automaton h g v
 
@@ -94,6 +96,11 @@ module _ {prefix prefix-after loop loop-after : List ℕ} {answer : Decoded} {a 
     -- what is answered to an accepted text, by its verdict
     accepting : solution-said (whole a n m r .answer) ≡ none → ByVerdict prefix prefix-after loop loop-after answer a n m (whole a n m r .reader)
     accepting e = d .accepted admitted (answer-accepted (whole a n m r .answer) e)
+
+  -- what a text is refused with is 9 or 10
+  text-number : (f : Refusal) → whole a n m r .answer ≡ reading.Refused f → codeOf f .number ≢ 12
+  text-number f e is =
+      ⊎-elim (λ t. omega arith) (λ t. omega arith) (fault-number (end (last a n m) (kept a n m) r) (codeOf f) (ap solution-said e))
 
   module _ (state letter : ℕ) (low : ¬ AllStep a n m (stated-by a n m r) → LowestWithout a n m (stated-by a n m r) state letter) where
     -- without a word
@@ -139,9 +146,9 @@ module _ {prefix prefix-after loop loop-after : List ℕ} {answer : Decoded} {a 
             go (inr (q, l, w)) = no (λ t. w .no-step (t q l (w .state-lt) (w .letter-lt)))
 
     -- a refusal that leaves both buffers as they were
-    refusal : {f : Refusal} {k : Code} → Fails k → Kept (without (Refused f)) → k ≡ codeOf f → Result
-    refusal {f} {k} t (e, p, l) g =
-        let said : decoder-said (answer .answer) ≡ some k = ap (λ x. decoder-said (x .answer)) e ∙ ap some (sym g) in
+    refusal : {f : Refusal} {k : Code} → Fails k → Kept (without (Refused f)) (some (codeOf f)) → k ≡ codeOf f → codeOf f .number ≢ 12 → Result
+    refusal {f} {k} t (e, p, l, returns) g other =
+        let said : decoder-said (answer .answer) ≡ some k = returns ∙ ap some (sym g) in
         record {
           state = state;
           letter = letter;
@@ -149,49 +156,50 @@ module _ {prefix prefix-after loop loop-after : List ℕ} {answer : Decoded} {a 
           y = [];
           judged = judged-refused t said (p, l);
           lowest = low;
-          empty = λ k s other. (refl, refl);
+          empty = λ k s n. (refl, refl);
+          shown = λ k. other-number returns other;
           accepted = λ s. some-none (sym said ∙ s);
         }
 
-    acceptance : {w : Verdict} {y : Decoded} → Passes → verdict-of a n m r ≡ w → (answer ≡ y → Answers w (decodedValue a n m ν) answer)
-        → decoder-said (y .answer) ≡ none → Kept y → Result
-    acceptance t q is k (e, p, l) = record {
+    acceptance : {w : Verdict} {y : Decoded} → Passes → verdict-of a n m r ≡ w → (answer ≡ y → Answers w (decodedValue a n m ν) answer) → Kept y none → Result
+    acceptance t q is (e, p, l, returns) = record {
       state = state;
       letter = letter;
       x = [];
       y = [];
-      judged = judged-accepted t (ap (λ x. decoder-said (x .answer)) e ∙ k);
+      judged = judged-accepted t returns;
       lowest = low;
       empty = λ k s other. (refl, refl);
+      shown = λ c s is. some-none (sym s ∙ returns);
       accepted = λ s. (subst (λ w. Answers w (decodedValue a n m ν) answer) (sym q) (is e), p, l);
     }
 
     result : ((k : Code) × Fails k) ⊎ Passes → Result
-    result (inl (k, inl (h, e))) = refusal (inl (h, e)) (d .short-prefix (omega arith)) e
-    result (inl (k, inr (h, inl (g, e)))) = refusal (inr (h, inl (g, e))) (d .short-loop h (omega arith)) e
-    result (inl (k, inr (h, inr (g, inl (v, e))))) = refusal (inr (h, inr (g, inl (v, e)))) (outside h g v) e
+    result (inl (k, inl (h, e))) = refusal (inl (h, e)) (d .short-prefix (omega arith)) e (λ is. omega arith)
+    result (inl (k, inr (h, inl (g, e)))) = refusal (inr (h, inl (g, e))) (d .short-loop h (omega arith)) e (λ is. omega arith)
+    result (inl (k, inr (h, inr (g, inl (v, e))))) = refusal (inr (h, inr (g, inl (v, e)))) (outside h g v) e (λ is. omega arith)
     result (inl (k, inr (h, inr (g, inr (v, inl (z, e)))))) =
-        refusal (inr (h, inr (g, inr (v, inl (z, e))))) (d .dimensions h g (v .0) (v .1) z) e
+        refusal (inr (h, inr (g, inr (v, inl (z, e))))) (d .dimensions h g (v .0) (v .1) z) e (λ is. omega arith)
     result (inl (k, inr (h, inr (g, inr (v, inr (z, inl (f, e))))))) =
         let (b, w) = answer-refused (whole a n m r .answer) f in
         refusal (inr (h, inr (g, inr (v, inr (z, inl (f, e)))))) (d .text (admitted h g v z) b w)
-        (e ∙ ap (λ w. fault-code (solution-said w)) w)
+        (e ∙ ap (λ w. fault-code (solution-said w)) w) (text-number b w)
     result (inl (k, inr (h, inr (g, inr (v, inr (z, inr (f, inl (u, e)))))))) =
-        refusal (inr (h, inr (g, inr (v, inr (z, inr (f, inl (u, e))))))) (accepting h g v z f .unstated (Dec·not-not (unstated-decided (verdict-of a n m r)) .0 u)) e
+        refusal (inr (h, inr (g, inr (v, inr (z, inr (f, inl (u, e))))))) (accepting h g v z f .unstated (Dec·not-not (unstated-decided (verdict-of a n m r)) .0 u)) e (λ is. omega arith)
     result (inl (k, inr (h, inr (g, inr (v, inr (z, inr (f, inr (u, inl (t, e))))))))) = stuck (satisfiable-decided (verdict-of a n m r))
       where
         stuck : Dec (verdict-of a n m r ≡ Satisfiable) → Result
         stuck (no j) = absurd (t (λ s. absurd (j s)))
         stuck (yes s) =
             refusal (inr (h, inr (g, inr (v, inr (z, inr (f, inr (u, inl (t, e))))))))
-            (accepting h g v z f .satisfiable s .no-step state letter (low (λ all. t (λ s. all)))) e
+            (accepting h g v z f .satisfiable s .no-step state letter (low (λ all. t (λ s. all)))) e (λ is. omega arith)
     result (inl (k, inr (h, inr (g, inr (v, inr (z, inr (f, inr (u, inr (t, inl (j, e)))))))))) = differing (satisfiable-decided (verdict-of a n m r))
       where
         differing : Dec (verdict-of a n m r ≡ Satisfiable) → Result
         differing (no i) = absurd (j (λ s. absurd (i s)))
         differing (yes s) =
             let w = accepting h g v z f .satisfiable s .table (t s) .differ (λ agree. j (λ s. agree)) in
-            let said = ap (λ x. decoder-said (x .answer)) (w .says) ∙ ap comparison-said (w .shown .says) in
+            let said = w .number in
             record {
               state = state;
               letter = letter;
@@ -200,6 +208,7 @@ module _ {prefix prefix-after loop loop-after : List ℕ} {answer : Decoded} {a 
               judged = judged-refused (inr (h, inr (g, inr (v, inr (z, inr (f, inr (u, inr (t, inl (j, refl))))))))) said (w .shown .prefix-is, w .shown .loop-is);
               lowest = low;
               empty = λ k e other. absurd (other (ap (λ (k : Code). k .number) (Option·some-inj .0 (sym e ∙ said))));
+              shown = λ k e is. w .shown .witness;
               accepted = λ e. some-none (sym said ∙ e);
             }
     result (inl (k, inr (h, inr (g, inr (v, inr (z, inr (f, inr (u, inr (t, inr (j, e)))))))))) = absurd e
@@ -207,9 +216,9 @@ module _ {prefix prefix-after loop loop-after : List ℕ} {answer : Decoded} {a 
       where
         go : (w : Verdict) → verdict-of a n m r ≡ w → Result
         go Unstated q = absurd (u q)
-        go Satisfiable q = acceptance (h, (g, (v, (z, (f, (u, (t, (j, e)))))))) q (λ e. e) refl (accepting h g v z f .satisfiable q .table (t q) .same (j q))
-        go Unsatisfiable q = acceptance (h, (g, (v, (z, (f, (u, (t, (j, e)))))))) q (λ e. e) refl (accepting h g v z f .none q)
-        go Unknown q = acceptance (h, (g, (v, (z, (f, (u, (t, (j, e)))))))) q (λ e. e) refl (accepting h g v z f .unknown q)
+        go Satisfiable q = acceptance (h, (g, (v, (z, (f, (u, (t, (j, e)))))))) q (λ e. e) (accepting h g v z f .satisfiable q .table (t q) .same (j q))
+        go Unsatisfiable q = acceptance (h, (g, (v, (z, (f, (u, (t, (j, e)))))))) q (λ e. e) (accepting h g v z f .none q)
+        go Unknown q = acceptance (h, (g, (v, (z, (f, (u, (t, (j, e)))))))) q (λ e. e) (accepting h g v z f .unknown q)
 
   pub decoder-judged : JudgesDecoding a n m r prefix prefix-after loop loop-after answer
   decoder-judged = go (all-or-lowest a n m (stated-by a n m r))

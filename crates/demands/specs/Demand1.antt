@@ -1,10 +1,11 @@
--- DEMAND 1, stated and proved. Bad input is refused with document 01's number and place, and what was lent or carried is as it was, but for 12's word; all
--- else is accepted; every call ends. The last is proved of each function by its check: no function is accepted that does not return.
+-- DEMAND 1, stated and proved. Bad input is refused with document 01's number and place, and what was lent or carried is as it was, but for 12's word, which
+-- one of the two automata accepts and the other rejects; all else is accepted; every call ends. The last is proved of each function by its check: no function is
+-- accepted that does not return.
 --
 -- One field for each public function. It speaks of every outcome that the function's promise allows; `Conditions` has what each asks, in order.
 use mathlib.Core.Path.{_≡_, ap, _∙_}
 use mathlib.Core.Logic.{_⊎_}
-use mathlib.Core.List.{List}
+use mathlib.Core.List.{List, _++_}
 use mathlib.Core.Option.{some}
 use Prim.Native.Nat.{ℕ, _≤_}
 use lib.IntN.{ℤ}
@@ -21,33 +22,34 @@ use Rattle.hoa_read.specs.declared.Reading.{Reading}
 use Rattle.hoa_read.specs.declared.Answer.the-variants.{Read}
 use Rattle.hoa_read.specs.Told as hoa
 use Rattle.hoa_write.specs.declared.Written.{Written}
-use Rattle.hoa_write.specs.Answer.{Answered}
+use Rattle.hoa_write.specs.Answer.{Answered, returned as writer-said}
 use Rattle.variables.specs.Sizes.{Dimensioned}
 use Rattle.clauses.specs.declared.Handed.{Handed}
 use Rattle.clauses.specs.declared.header.Totals.{Totals}
-use Rattle.clauses.specs.Header.{Headed}
-use Rattle.clauses.specs.Step.{Stepped}
+use Rattle.clauses.specs.Header.{Headed, returned as header-said}
+use Rattle.clauses.specs.Step.{Stepped, returned as step-said}
 use Rattle.clause_text.specs.Answers.{LineStepped, BatchStepped}
 use Rattle.solution.specs.declared.Reader.{Reader}
 use Rattle.solution.specs.declared.Reply.{Reply}
-use Rattle.solution.specs.SolverText.{outcome}
+use Rattle.solution.specs.SolverText.{fault, outcome}
 use Rattle.solution.specs.Machine.{told, run, end, fresh}
-use Rattle.solution.specs.Calls.{Called, Reads, Ends, InRange, last, kept}
-use Rattle.solution.specs.Pieces.{joined}
+use Rattle.solution.specs.Calls.{Called, Reads, Ends, InRange, RefusedExactly, joined, last, kept, returned as solution-said}
+use Rattle.solution.specs.Staying.{refused-run, refused-end}
+use Rattle.solution.specs.MidText.{piece-refused-exactly}
 use Rattle.decode.specs.declared.Decoded.{Decoded}
-use Rattle.decode.specs.Answers.{Decodes}
-use Rattle.decode.specs.Texts.{OfText, text-answer}
+use Rattle.decode.specs.Answers.{Decodes, OfText}
+use Rattle.decode.specs.Texts.{text-answer}
 use Rattle.search.specs.declared.Search.{Search}
 use Rattle.search.specs.declared.Reply as search
 use Rattle.search.specs.Rule as rule
-use Rattle.search.specs.Replies.{Started, Told, Found}
+use Rattle.search.specs.Replies.{Started, Told, Found, returned as search-said}
 use Rattle.demands.specs.File.{last-variable, steps-and-marks}
 use Rattle.demands.specs.Judgement.{Judged}
-use Rattle.demands.specs.Conditions.{to-read, reader-said, to-write, writer-said, JudgesComparison, to-count, header-said, to-hand-out, step-said, solution-said, outcome-said, JudgesReading, JudgesDecoding, search-said, to-start, to-go-on, JudgesFinding}
+use Rattle.demands.specs.Conditions.{to-read, to-write, JudgesComparison, to-count, to-hand-out, JudgesReading, JudgesDecoding, to-start, to-go-on, JudgesFinding}
 use Rattle.demands.specs.HoaJudged.{reader-judged, reader-valid, writer-judged}
 use Rattle.demands.specs.ComparisonJudged.{comparison-judged}
 use Rattle.demands.specs.ClausesJudged.{header-judged, step-judged, line-judged, lines-judged}
-use Rattle.demands.specs.SolverTextJudged.{reading-judged, fault-number, refused-run, refused-end, whole-judged}
+use Rattle.demands.specs.SolverTextJudged.{reading-judged, fault-place, fault-number, whole-judged}
 use Rattle.demands.specs.DecoderJudged.{decoder-judged}
 use Rattle.demands.specs.SearchJudged.{start-judged, told-judged, found-judged}
 
@@ -55,7 +57,7 @@ use Rattle.demands.specs.SearchJudged.{start-judged, told-judged, found-
 
 -- hoa_read::read
 pub record ReadsHoa : Type 0 where
-  pub judged : (s : List ℕ) (r : Reading) → r ≡ hoa.told (read s) → Judged (to-read s) (reader-said (r .answer)) (Unit {0})
+  pub judged : (s : List ℕ) (r : Reading) → r ≡ hoa.told (read s) → Judged (to-read s) (hoa.returned (r .answer)) (Unit {0})
   -- what is accepted lies in "The automaton"
   pub valid : (s : List ℕ) (r : Reading) → r ≡ hoa.told (read s) → r .answer ≡ Read → Valid (r .automaton)
   -- and every automaton has a text that is accepted as that automaton: the reader does not always object
@@ -68,7 +70,10 @@ pub record ReadsSolverText : Type 0 where
   pub finish : (a : Automaton) (n m : ℕ) (r : Reader) (e : Reply) → Ends a n m r e → JudgesReading a n m r (told (end (last a n m) (kept a n m) r)) e
   -- "Text may arrive cut anywhere; the answer is that of the whole text": 9 and 10 are returned where the definition of solver text gives them
   pub whole : (a : Automaton) (n m : ℕ) → Valid a → Dimensioned n m → (us : List (List ℕ)) (q : Reader) (e : Reply) → Reads a n m fresh us q → Ends a n m q e
-      → solution-said (e .answer) ≡ outcome-said (outcome (last-variable a n m) (steps-and-marks a n m) (joined us))
+      → solution-said (e .answer) ≡ fault (outcome (last-variable a n m) (steps-and-marks a n m) (joined us))
+  -- and in mid-text: a piece is refused exactly where every text that begins so is
+  pub mid-text : (a : Automaton) (n m : ℕ) → Valid a → Dimensioned n m → (us : List (List ℕ)) (q : Reader) (u : List ℕ) (e : Reply) → Reads a n m fresh us q
+      → Called a n m q (told (run (last a n m) (kept a n m) q u)) e → RefusedExactly (last-variable a n m) (steps-and-marks a n m) (joined us ++ u) (e .answer)
   -- "refused solver text stays refused", whatever comes next
   pub stays : (a : Automaton) (n m : ℕ) (r : Reader) (c : Code) → Valid a → InRange r → Dimensioned n m → solution-said (told r .answer) ≡ some c
       → ((u : List ℕ) (e : Reply) → Called a n m r (told (run (last a n m) (kept a n m) r u)) e → e ≡ told r) × ((e : Reply) → Ends a n m r e → e ≡ told r)
@@ -120,9 +125,10 @@ reads-solver-text = record {
   piece = λ a n m r u e c. reading-judged a n m r _ e c;
   finish = λ a n m r e c. reading-judged a n m r _ e c;
   whole = λ a n m v d us q e k c. whole-judged a n m v d us q e k c;
+  mid-text = λ a n m v d us q u e k c. piece-refused-exactly v d k u c;
   stays = λ a n m r c v i d t. (
-    λ u e k. k .text v i d ∙ ap told (refused-run r c t (last a n m) (kept a n m) u),
-    λ e k. k .text v i d ∙ ap told (refused-end r c t (last a n m) (kept a n m)),
+    λ u e k. k .text v i d ∙ ap told (refused-run (last a n m) (kept a n m) r (fault-place r c t) u),
+    λ e k. k .text v i d ∙ ap told (refused-end (last a n m) (kept a n m) r (fault-place r c t)),
   );
   number = fault-number;
 }

@@ -10,10 +10,11 @@ use Rattle.meaning.specs.Agreement.{Agree, AgreeEverywhere}
 use Rattle.meaning.specs.AllWords.{agree-everywhere}
 use Rattle.automaton.specs.declared.Automaton.{Automaton}
 use Rattle.automaton.specs.Value.{Valid}
-use Rattle.automaton.specs.View.{view, view-formed}
+use Rattle.automaton.specs.View.{view}
+use Rattle.automaton.specs.ViewLaws.{view-formed}
 use Rattle.compare.specs.declared.Comparison.{Comparison}
 use Rattle.compare.specs.declared.Comparison.the-variants.{Same}
-use Rattle.compare.specs.Compared.{Compared, Shown}
+use Rattle.compare.specs.Compared.{Compared, Shown, returned as comparison-said}
 use Rattle.hoa_text.specs.Reading.{read}
 use Rattle.hoa_text.specs.ReadBack.{read-back}
 use Rattle.hoa_text.specs.Written.{text}
@@ -23,7 +24,6 @@ use Rattle.hoa_read.specs.Told.{told}
 use Rattle.hoa_write.specs.declared.Written.{Written}
 use Rattle.hoa_write.specs.declared.Written.the-variants.{Text}
 use Rattle.hoa_write.specs.Answer.{Answered}
-use Rattle.demands.specs.Conditions.{comparison-said}
 use Rattle.demands.specs.ComparisonJudged.{comparison-judged}
 
 -- ---- the statement
@@ -77,6 +77,6 @@ pub demand-2 : Demand2
 demand-2 = record {
   compares = λ a b prefix prefix-after loop loop-after answer c. comparison c;
   reads-back = λ a out after answer w v h.
-      let (e, i) = w .written h v in
+      let (e, i, _) = w .written h v in
       (length (text a), e, λ r q. q ∙ ap told (ap (λ s. read (take (length (text a)) s)) i ∙ ap read (take-at (text a) (drop (length (text a)) out) (length (text a)) refl) ∙ read-back a v));
 }

@@ -6,14 +6,16 @@
 use mathlib.Core.Path.{_≡_, sym, ap₂, subst}
 use mathlib.Core.Logic.{_↔_}
 use mathlib.Core.List.{List}
+use mathlib.Core.Option.{none, some}
 use Prim.Native.Nat.{ℕ, _+_, _*_, _^_, _≤_, _<_}
-use native.Mathlib.Decide.{decLe}
 use native.Mathlib.Omega.{arith}
 use lib.ListN.{length}
 use Rattle.automaton.specs.declared.Automaton.{Automaton}
 use Rattle.automaton.specs.declared.refusal.Refusal.the-variants.{Short}
+use Rattle.automaton.specs.Refused.{row}
 use Rattle.automaton.specs.Value.{Valid, letters}
-use Rattle.automaton.specs.View.{view, view-formed}
+use Rattle.automaton.specs.View.{view}
+use Rattle.automaton.specs.ViewLaws.{view-formed}
 use Rattle.encoding.specs.Variables.{base, base-number}
 use Rattle.encoding.specs.Clauses.{Assignment, Satisfies, group₄}
 use Rattle.encoding.specs.Base.{base-length, base-encodes}
@@ -21,6 +23,7 @@ use Rattle.variables.specs.Sizes as sizes
 use Rattle.variables.specs.Sizes.{Dimensioned}
 use Rattle.clauses.specs.declared.header.Totals.{Totals}
 use Rattle.clauses.specs.declared.header.Totals.the-variants.{Of, Refused as NoTotals}
+use Rattle.clauses.specs.Step.{fresh-position}
 use Rattle.clauses.specs.Header.{Headed}
 use Rattle.clauses.specs.Calls.{Call, Calls, HandsOut}
 use Rattle.clauses.specs.HandsOut.{hands-out}
@@ -30,12 +33,12 @@ use Rattle.solution.specs.declared.Reader.{Reader}
 use Rattle.solution.specs.declared.Reply.{Reply}
 use Rattle.solution.specs.Assignment.{States}
 use Rattle.solution.specs.Machine.{fresh}
-use Rattle.solution.specs.Calls.{Reads, Ends, last, kept}
-use Rattle.solution.specs.Pieces.{joined}
+use Rattle.solution.specs.Calls.{Reads, Ends, joined, last, kept}
 use Rattle.decode.specs.declared.Decoded.{Decoded}
 use Rattle.decode.specs.declared.Answer.the-variants.{Refused}
 use Rattle.decode.specs.Answers.{Untouched, Decodes, found, without}
-use Rattle.decode.specs.Candidates.{Found, satisfying-steps, satisfying-found, found-decoded, satisfiable as can-be-satisfied}
+use Rattle.decode.specs.Found.{Found}
+use Rattle.decode.specs.Candidates.{satisfying-steps, satisfying-found, found-decoded, satisfiable as can-be-satisfied}
 use Rattle.decode.specs.Texts.{satisfying-text, satisfying-ended}
 use Rattle.decode.specs.Table.{decodedValue}
 use Rattle.decode.specs.Value.{decoded-same-value}
@@ -51,18 +54,19 @@ pub data Held (reference : Automaton) (n m : ℕ) (pieces : List (List ℕ)) : R
 
 -- the decoder answers C, or 13 where a buffer is short, and leaves both buffers as they were
 pub record Delivers (C : Automaton) (prefix prefix-after loop loop-after : List ℕ) (answer : Decoded) : Type 0 where
-  pub table : 256 ≤ length prefix → 1280 ≤ length loop → answer ≡ found C
-  pub short-prefix : length prefix < 256 → answer ≡ without (Refused (Short 256 (length prefix)))
-  pub short-loop : 256 ≤ length prefix → length loop < 1280 → answer ≡ without (Refused (Short 1280 (length loop)))
-  pub untouched : (prefix-after ≡ prefix) × (loop-after ≡ loop)
+  pub table : 256 ≤ length prefix → 1280 ≤ length loop → Untouched prefix prefix-after loop loop-after answer (found C) none
+  pub short-prefix : length prefix < 256
+      → Untouched prefix prefix-after loop loop-after answer (without (Refused (Short 256 (length prefix)))) (some (row 13 256 (length prefix)))
+  pub short-loop : 256 ≤ length prefix → length loop < 1280
+      → Untouched prefix prefix-after loop loop-after answer (without (Refused (Short 1280 (length loop)))) (some (row 13 1280 (length loop)))
 
 pub record Demand3 (reference : Automaton) (n m : ℕ) : Type 0 where
   -- 1. "A fresh clause step stands before clause 1. Each call gets the same reference, n and m, .. a buffer of any length and the state as the call before it,
   -- refused or not, left it." The calls that are not refused hand out the clauses of the file in order, one each, and then "ended" again and again; a refused
   -- call keeps the position and the buffer.
-  pub clauses : (cs : List Call) → Calls reference n m 0 cs → HandsOut reference n m cs
+  pub clauses : (cs : List Call) → Calls reference n m fresh-position cs → HandsOut reference n m cs
   -- The same file as text, one line a call or as many as the buffer holds, in any order.
-  pub lines : (cs : List TextCall) → TextCalls reference n m 0 cs → LinesOut reference n m cs
+  pub lines : (cs : List TextCall) → TextCalls reference n m fresh-position cs → LinesOut reference n m cs
   -- 2. "The header is `p cnf V C`": the last variable and the number of clauses.
   pub header : (r : Totals) → Headed reference n m r → r ≡ Of (last-variable reference n m) (length (file reference n m))
   -- "C counted beforehand: nL + (1 + nnrL) + n³rrL·2^m·2^s·2^m + the length of group 4"
@@ -98,21 +102,15 @@ module _ {reference : Automaton} {n m : ℕ} (v : Valid reference) (d : Dimensio
       → (r : Reader) → Held reference n m pieces r → (prefix prefix-after loop loop-after : List ℕ) (answer : Decoded)
       → Decodes prefix prefix-after loop loop-after answer reference n m r → Delivers (decodedValue reference n m ν) prefix prefix-after loop loop-after answer
   delivered ν s pieces t r h prefix prefix-after loop loop-after answer c = record {
-    table = λ p l. by-held h c p l .0;
-    short-prefix = λ p. c .short-prefix p .0;
-    short-loop = λ p l. c .short-loop p l .0;
-    untouched = go (decLe 256 (length prefix)) (decLe 1280 (length loop));
+    table = by-held h c;
+    short-prefix = c .short-prefix;
+    short-loop = c .short-loop;
   }
     where
       by-held : {r : Reader} → Held reference n m pieces r → Decodes prefix prefix-after loop loop-after answer reference n m r → 256 ≤ length prefix → 1280 ≤ length loop
-          → Untouched prefix prefix-after loop loop-after answer (found (decodedValue reference n m ν))
+          → Untouched prefix prefix-after loop loop-after answer (found (decodedValue reference n m ν)) none
       by-held (read k) c p l = satisfying-text v d p l ν s k t c
       by-held (ended k e) c p l = satisfying-ended v d p l ν s k t e c
-
-      go : Dec (256 ≤ length prefix) → Dec (1280 ≤ length loop) → (prefix-after ≡ prefix) × (loop-after ≡ loop)
-      go (no p) l = let (e, x, y) = c .short-prefix (omega arith) in (x, y)
-      go (yes p) (no l) = let (e, x, y) = c .short-loop p (omega arith) in (x, y)
-      go (yes p) (yes l) = let (e, x, y) = by-held h c p l in (x, y)
 
   every-field : Demand3 reference n m
   every-field = record {

@@ -20,11 +20,12 @@ use Rattle.hoa_text.specs.Reading.{reading, read}
 use Rattle.hoa_text.specs.Tokens.{tokens}
 use Rattle.hoa_read.specs.declared.Reading.{Reading}
 use Rattle.hoa_read.specs.declared.Answer.the-variants.{Read}
-use Rattle.hoa_read.specs.Told.{told}
+use Rattle.hoa_read.specs.Told.{told, fault as hoa-said, returned as reader-said}
+use Rattle.hoa_read.proofs.ReadLaws.{returned-told}
 use Rattle.hoa_write.specs.declared.Written.{Written}
-use Rattle.hoa_write.specs.Answer.{Answered}
+use Rattle.hoa_write.specs.Answer.{Answered, returned as writer-said}
 use Rattle.demands.specs.Judgement.{TurnedDown, Judged}
-use Rattle.demands.specs.Conditions.{to-write, writer-said, to-read, hoa-said, reader-said}
+use Rattle.demands.specs.Conditions.{to-write, to-read}
 use Rattle.demands.specs.Decisions.{some-none, fault-decided, fault-is, judged, valid-decided}
 
 text-judged : (s : List ℕ) → Judged (to-read s) (hoa-said (read s)) (Unit {0})
@@ -40,13 +41,8 @@ text-judged s =
     refused c (inr (h, inl (f, e))) = (by-length (le-leb (length s) 65536 h) ∙ fault-is (hoa-said (reading (tokens s))) c f e, tt)
     refused c (inr (h, inr (f, t))) = absurd t
 
--- the reply says what the text gives
-reply-said : (x : Result Automaton) → hoa-said x ≡ reader-said (told x .answer)
-reply-said (gives a) = refl
-reply-said (refuses f) = refl
-
 pub reader-judged : (s : List ℕ) (r : Reading) → r ≡ told (read s) → Judged (to-read s) (reader-said (r .answer)) (Unit {0})
-reader-judged s r e = subst (λ x. Judged (to-read s) x (Unit {0})) (reply-said (read s) ∙ ap (λ (r : Reading). reader-said (r .answer)) (sym e)) (text-judged s)
+reader-judged s r e = subst (λ x. Judged (to-read s) x (Unit {0})) (sym (returned-told (read s)) ∙ ap (λ (r : Reading). reader-said (r .answer)) (sym e)) (text-judged s)
 
 pub reader-valid : (s : List ℕ) (r : Reading) → r ≡ told (read s) → r .answer ≡ Read → Valid (r .automaton)
 reader-valid s r e q = go (read s) refl
@@ -58,9 +54,9 @@ reader-valid s r e q = go (read s) refl
 pub writer-judged : (a : Automaton) (out after : List ℕ) (answer : Written) → Answered a out after answer
     → Judged (to-write a (length out)) (writer-said answer) (after ≡ out)
 writer-judged a out after answer w =
-    judged (decLe 8192 (length out), λ h. (valid-decided a, λ v. tt)) refused (λ (h, (v, t)). ap writer-said (w .written h v .0))
+    judged (decLe 8192 (length out), λ h. (valid-decided a, λ v. tt)) refused (λ (h, (v, t)). w .written h v .2)
   where
     refused : (c : Code) → TurnedDown (to-write a (length out)) c → (writer-said answer ≡ some c) × (after ≡ out)
-    refused c (inl (h, e)) = let (s, k) = w .short (omega arith) in (ap writer-said s ∙ ap some (sym e), k)
-    refused c (inr (h, inl (v, e))) = let (s, k) = w .outside h v in (ap writer-said s ∙ ap some (sym e), k)
+    refused c (inl (h, e)) = let (s, k, n) = w .short (omega arith) in (n ∙ ap some (sym e), k)
+    refused c (inr (h, inl (v, e))) = let (s, k, n) = w .outside h v in (n ∙ ap some (sym e), k)
     refused c (inr (h, inr (v, t))) = absurd t

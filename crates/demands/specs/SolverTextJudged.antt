@@ -1,11 +1,10 @@
--- The reader of solver text is judged by its conditions; refused text stays refused.
-use mathlib.Core.Path.{_≡_, refl, sym, ap, _∙_, subst}
-use mathlib.Core.Logic.{_⊎_, inl, inr, ⊎-elim, Dec·and}
-use mathlib.Core.Bool.{Bool, true, false, cond}
+-- The reader of solver text is judged by its conditions, and whole texts by their definition.
+use mathlib.Core.Path.{_≡_, refl, sym, ap, _∙_}
+use mathlib.Core.Logic.{_⊎_, inl, inr, Dec·and}
+use mathlib.Core.Bool.{true}
 use mathlib.Core.List.{List, [], _∷_, _++_}
 use mathlib.Core.Option.{none, some, Option·some-inj}
 use Prim.Native.Nat.{ℕ}
-use lib.Dec.{eqb}
 use Rattle.automaton.specs.declared.Automaton.{Automaton}
 use Rattle.automaton.specs.declared.refusal.Code.{Code}
 use Rattle.automaton.specs.declared.refusal.Refusal.the-variants.{Outside, Dimensions}
@@ -14,14 +13,15 @@ use Rattle.variables.specs.Sizes.{Dimensioned}
 use Rattle.solution.specs.declared.Reader.{Reader}
 use Rattle.solution.specs.declared.Reply.{Reply}
 use Rattle.solution.specs.declared.scan.Place.{Place}
-use Rattle.solution.specs.declared.scan.Place.the-variants.{Start, Comment, AfterS, BeforeWord, Word, AfterWord, AfterToken, BeforeToken, AfterMinus, Digits, Ended, BadForm, BadLiteral}
-use Rattle.solution.specs.SolverText.{Outcome, gives, refused, outcome}
-use Rattle.solution.specs.Machine.{at-rest, told, answerAt, refusedAt, atLimit, byPlace, step, run, endAt, end, fresh}
-use Rattle.solution.specs.Calls.{Called, Reads, Ends, InRange, last, kept, refusal}
-use Rattle.solution.specs.Pieces.{joined, whole-text, Tells}
+use Rattle.solution.specs.SolverText.{Outcome, gives, refused, fault, outcome}
+use Rattle.solution.specs.Machine.{told, answerAt, refusedAt, fresh}
+use Rattle.solution.specs.Calls.{Called, Reads, Ends, InRange, joined, last, kept, refusal, returned as solution-said}
+use Rattle.solution.specs.Cases.{by}
+use Rattle.solution.specs.Staying.{accepted-place, at-both}
+use Rattle.solution.specs.Pieces.{whole-text, Tells}
 use Rattle.demands.specs.File.{last-variable, steps-and-marks}
 use Rattle.demands.specs.Judgement.{TurnedDown, Accepted}
-use Rattle.demands.specs.Conditions.{to-begin, no-fault, solution-said, outcome-said, JudgesReading}
+use Rattle.demands.specs.Conditions.{to-begin, no-fault, JudgesReading}
 use Rattle.demands.specs.Decisions.{Decided, fault-decided, fault-is, some-none, judged, valid-decided, dimensioned-decided, in-range-decided}
 
 -- ---- one call
@@ -60,69 +60,32 @@ module _ (a : Automaton) (n m : ℕ) (r : Reader) (read reply : Reply) (c : Call
       stays k (inr (h, inl (d, e))) = ap (λ x. x .reader) (sizes (h .0) (h .1) d)
       stays k (inr (h, inr (d, t))) = absurd t
 
--- ---- "refused solver text stays refused"
-
-fault-place : (p : Place) (at : ℕ) (c : Code) → solution-said (answerAt p at) ≡ some c → (p ≡ BadForm) ⊎ (p ≡ BadLiteral)
-unfolding answerAt
-fault-place Start at c e = some-none (sym e)
-fault-place Comment at c e = some-none (sym e)
-fault-place AfterS at c e = some-none (sym e)
-fault-place BeforeWord at c e = some-none (sym e)
-fault-place Word at c e = some-none (sym e)
-fault-place AfterWord at c e = some-none (sym e)
-fault-place AfterToken at c e = some-none (sym e)
-fault-place BeforeToken at c e = some-none (sym e)
-fault-place AfterMinus at c e = some-none (sym e)
-fault-place Digits at c e = some-none (sym e)
-fault-place Ended at c e = some-none (sym e)
-fault-place BadForm at c e = inl refl
-fault-place BadLiteral at c e = inr refl
-
-both-same : {A : Type 0} (x : Bool) (y : A) → cond x y y ≡ y
-both-same true y = refl
-both-same false y = refl
+-- ---- what a text is refused with
 
 module _ (r : Reader) (c : Code) (e : solution-said (told r .answer) ≡ some c) where
-  place : (r .scan .place ≡ BadForm) ⊎ (r .scan .place ≡ BadLiteral)
-  place = fault-place (r .scan .place) (r .scan .at) c e
+  pub fault-place : refusedAt (r .scan .place) ≡ true
+  fault-place = by (refusedAt (r .scan .place)) (λ h. h) (λ h. some-none (sym e ∙ ap solution-said (accepted-place (r .scan .place) (r .scan .at) h)))
 
   pub fault-number : (c .number ≡ 9) ⊎ (c .number ≡ 10)
   unfolding answerAt
-  fault-number =
-      ⊎-elim
-      (λ g. inl (sym (ap (λ (k : Code). k .number) (Option·some-inj .0 (ap (λ p. solution-said (answerAt p (r .scan .at))) (sym g) ∙ e)))))
-      (λ g. inr (sym (ap (λ (k : Code). k .number) (Option·some-inj .0 (ap (λ p. solution-said (answerAt p (r .scan .at))) (sym g) ∙ e)))))
-      place
+  fault-number = at-both r fault-place P (λ g. inl (same g)) (λ g. inr (same g)) e
+    where
+      P : Place → Type 0
+      P p = solution-said (answerAt p (r .scan .at)) ≡ some c → (c .number ≡ 9) ⊎ (c .number ≡ 10)
 
-  module _ (L K : ℕ) where
-    refused-byte : (b : ℕ) → step L K (r .scan) (r .named) b ≡ r
-    unfolding step atLimit byPlace refusedAt
-    refused-byte b = ⊎-elim (λ g. subst Stays (sym g) same) (λ g. subst Stays (sym g) same) place
-      where
-        Stays : Place → Type 0
-        Stays p = cond (eqb (r .scan .at) 4294967295) (at-rest (atLimit p (r .scan)) (r .named)) (byPlace p L K (r .scan) (r .named) b) ≡ r
-
-        same : cond (eqb (r .scan .at) 4294967295) r r ≡ r
-        same = both-same (eqb (r .scan .at) 4294967295) r
-
-    pub refused-run : (u : List ℕ) → run L K r u ≡ r
-    refused-run [] = refl
-    refused-run (b ∷ u) = ap (λ x. run L K x u) (refused-byte b) ∙ refused-run u
-
-    pub refused-end : end L K r ≡ r
-    unfolding endAt
-    refused-end = ⊎-elim (λ g. ap (λ p. endAt p L K (r .scan) (r .named)) g) (λ g. ap (λ p. endAt p L K (r .scan) (r .named)) g) place
+      same : {k : Code} → some k ≡ some c → c .number ≡ k .number
+      same g = sym (ap (λ (k : Code). k .number) (Option·some-inj .0 g))
 
 -- ---- whole texts
 
 pub whole-judged : (a : Automaton) (n m : ℕ) → Valid a → Dimensioned n m → (us : List (List ℕ)) (q : Reader) (e : Reply) → Reads a n m fresh us q → Ends a n m q e
-    → solution-said (e .answer) ≡ outcome-said (outcome (last-variable a n m) (steps-and-marks a n m) (joined us))
+    → solution-said (e .answer) ≡ fault (outcome (last-variable a n m) (steps-and-marks a n m) (joined us))
 whole-judged a n m v d us q e k c =
     go (outcome (last a n m) (kept a n m) (joined us)) refl
   where
     tells : Tells (kept a n m) (outcome (last a n m) (kept a n m) (joined us)) e
     tells = whole-text v d k c
 
-    go : (x : Outcome) → outcome (last a n m) (kept a n m) (joined us) ≡ x → solution-said (e .answer) ≡ outcome-said x
+    go : (x : Outcome) → outcome (last a n m) (kept a n m) (joined us) ≡ x → solution-said (e .answer) ≡ fault x
     go (gives s) g = ap solution-said (tells .accepted s g)
     go (refused f) g = ap solution-said (tells .refusal f g)

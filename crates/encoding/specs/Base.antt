@@ -8,7 +8,7 @@ use lib.Dec.{eqb}
 use lib.ListN.{length}
 use Rattle.meaning.specs.Automata.{Aut, WellFormed, EverySet}
 use Rattle.meaning.specs.BitSet.{has}
-use Rattle.meaning.specs.Tests.{all-same}
+use Rattle.meaning.specs.TestLaws.{all-same}
 use Rattle.encoding.specs.Variables.{Task, Var, step, mark, path, Present, base, base-number, base-variables, transition-marks, all-paths}
 use Rattle.encoding.specs.Clauses.{_∪_, marks-of, exactly-one, group₄, base-file}
 use Rattle.encoding.specs.MarkSets.{set-of-lt, all-has}

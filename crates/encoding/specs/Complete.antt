@@ -9,7 +9,8 @@ use lib.Pow.{pow-pos}
 use borrow.Author.Tests.{eq-eqb, eqb-true}
 use Rattle.meaning.specs.Automata.{Aut, WellFormed}
 use Rattle.meaning.specs.Agreement.{Over, Agree}
-use Rattle.meaning.specs.Tests.{and-true, and-left, and-right, any, any-at, any-find}
+use Rattle.meaning.specs.Tests.{any}
+use Rattle.meaning.specs.TestLaws.{and-true, and-left, and-right, any-at, any-find}
 use Rattle.meaning.specs.BitSet.{has}
 use Rattle.meaning.specs.Walk.{run}
 use Rattle.meaning.specs.Run.{after, seen}

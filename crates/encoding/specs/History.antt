@@ -4,7 +4,8 @@ use mathlib.Core.Bool.{Bool, _||_, or-false, or-assoc}
 use mathlib.Core.List.{List, [], _∷_}
 use Prim.Native.Nat.{ℕ, _<_}
 use Rattle.meaning.specs.Automata.{Aut, WellFormed}
-use Rattle.meaning.specs.BitSet.{has, has-or, has-zero}
+use Rattle.meaning.specs.BitSet.{has}
+use Rattle.meaning.specs.BitSetLaws.{has-or, has-zero}
 use Rattle.meaning.specs.Walk.{run}
 use Rattle.meaning.specs.Run.{seen}
 use Rattle.encoding.specs.Clauses.{marks-of, _∪_}

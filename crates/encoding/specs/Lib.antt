@@ -5,6 +5,7 @@ pub mod Loops
 pub mod MarkSets
 pub mod Membership
 pub mod Positions
+pub mod ByPosition
 pub mod Counts
 pub mod WellPosed
 pub mod Satisfaction

@@ -1,15 +1,13 @@
 -- Laws of loops that make a list: what is in it, how two loops are one, and how long it is.
 use mathlib.Core.Path.{_≡_, refl, sym, ap, ap₂, _∙_}
 use mathlib.Core.Logic.{_⊎_, inl, inr, ⊎-elim, _↔_}
-use mathlib.Core.Bool.{Bool, true, false, cond, false≢true}
+use mathlib.Core.Bool.{Bool, true, false, false≢true}
 use mathlib.Core.List.{List, _++_, append-assoc, append-nil, List·Memᴰ, List·Memᴰ·head, List·Memᴰ·not-nil, List·Memᴰ·append-cases, List·Memᴰ·eq-of-singleton, Memᴰ·append-left, Memᴰ·append-right}
-use Prim.Native.Nat.{ℕ, zero, suc, _+_, _-_, _*_, _/_, _%_, _≤_, _<_, zero-le}
-use native.Mathlib.Nat.{zero-mul, suc-mul, add-suc, add-zero, le-refl, le-add-right, add-sub-cancel-left, eq-or-lt-of-le, le-of-suc-le-suc, not-suc-le-zero}
+use Prim.Native.Nat.{ℕ, zero, suc, _+_, _*_, _/_, _%_, _≤_, _<_, zero-le}
+use native.Mathlib.Nat.{zero-mul, suc-mul, add-suc, add-zero, le-refl, eq-or-lt-of-le, le-of-suc-le-suc, not-suc-le-zero}
 use native.Mathlib.Omega.{arith}
 use lib.Arith.{digits-div, digits-mod}
-use lib.Dec.{ltb}
 use lib.ListN.{length, length-append}
-use borrow.Author.Tests.{lt-ltb, le-ltb}
 use Rattle.meaning.specs.BitSet.{bit}
 use Rattle.encoding.specs.Clauses.{each, only}
 
@@ -54,25 +52,6 @@ module _ {A : Type 0} where
       let h : ℕ → List A = λ x. f (x / k) (x % k) in
       ap₂ _++_ (each-each n k f) (each-same k (f n) (λ i. h (n * k + i)) (λ i l. ap₂ f (sym (digits-div n l)) (sym (digits-mod n l))))
       ∙ sym (each-add (n * k) k h) ∙ ap (λ x. each x h) (sym (suc-mul n k))
-
-  -- a loop after a loop
-  unfoldable pub then-at : (a : ℕ) → (ℕ → List A) → (ℕ → List A) → ℕ → List A
-  then-at a f g x = cond (ltb x a) (f x) (g (x - a))
-
-  pub each-then : (a b : ℕ) (f g : ℕ → List A) → each a f ++ each b g ≡ each (a + b) (then-at a f g)
-  unfolding then-at
-  each-then a b f g =
-      ap₂ _++_ (each-same a f _ (λ i h. sym (ap (λ (t : Bool). cond t (f i) (g (i - a))) (lt-ltb _ _ h))))
-      (each-same b g _ (λ i h. sym (ap₂ (λ (t : Bool) (x : ℕ). cond t (f (a + i)) (g x)) (le-ltb _ _ (le-add-right a i)) (add-sub-cancel-left a i))))
-      ∙ sym (each-add a b (then-at a f g))
-
-  pub then-most-one : (a : ℕ) (f g : ℕ → List A) → ((x : ℕ) → length (f x) ≤ 1) → ((x : ℕ) → length (g x) ≤ 1) → (x : ℕ) → length (then-at a f g x) ≤ 1
-  unfolding then-at
-  then-most-one a f g hf hg x = go (ltb x a)
-    where
-      go : (b : Bool) → length (cond b (f x) (g (x - a))) ≤ 1
-      go true = hf x
-      go false = hg (x - a)
 
   pub only-most-one : (b : Bool) (a : A) → length (only b a) ≤ 1
   unfolding only

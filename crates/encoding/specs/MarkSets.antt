@@ -7,8 +7,10 @@ use native.Mathlib.Omega.{arith}
 use lib.Arith.{digits-div, digits-mod, lt-one}
 use lib.Dec.{eqb}
 use borrow.Author.Tests.{eq-eqb, eqb-true}
-use Rattle.meaning.specs.BitSet.{digit, bit, has, digit-bit, full-mod, mod-full}
-use Rattle.meaning.specs.Tests.{all, same-truth}
+use Rattle.meaning.specs.BitSet.{digit, bit, has}
+use Rattle.meaning.specs.BitSetLaws.{digit-bit, full-mod, mod-full}
+use Rattle.meaning.specs.Tests.{all}
+use Rattle.meaning.specs.TestLaws.{same-truth}
 use Rattle.encoding.specs.Clauses.{set-of}
 
 bit-lt : (b : Bool) → bit b < 2
@@ -20,10 +22,10 @@ bit-digit zero h = refl
 bit-digit (suc zero) h = refl
 bit-digit (suc (suc x)) h = absurd (omega arith)
 
-has-low : (K : ℕ) → has K 0 ≡ digit (K % 2)
+pub has-low : (K : ℕ) → has K 0 ≡ digit (K % 2)
 has-low K = ap (λ x. digit (x % 2)) (div-one K)
 
-has-half : (K i : ℕ) → has K (suc i) ≡ has (K / 2) i
+pub has-half : (K i : ℕ) → has K (suc i) ≡ has (K / 2) i
 has-half K i =
     let e : 2 ^ suc i ≡ 2 * 2 ^ i = omega (arith, two-pow-succ i) in
     ap (λ x. digit (x % 2)) (ap (λ x. K / x) e ∙ sym (div-div-eq-div-mul K 2 (2 ^ i)))

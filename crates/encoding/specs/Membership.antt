@@ -5,7 +5,7 @@ use mathlib.Core.Bool.{true}
 use mathlib.Core.List.{List, List·Memᴰ, List·Memᴰ·head, List·Memᴰ·tail, List·Memᴰ·cases-cons, List·Memᴰ·append-cases, List·Memᴰ·eq-of-singleton, Memᴰ·append-left, Memᴰ·append-right}
 use Prim.Native.Nat.{ℕ, _^_, _<_}
 use lib.IntN.{ℤ}
-use Rattle.meaning.specs.Tests.{and-true, and-left, and-right}
+use Rattle.meaning.specs.TestLaws.{and-true, and-left, and-right}
 use Rattle.encoding.specs.Variables.{Task, Var, step, path, Present}
 use Rattle.encoding.specs.Clauses.{totality, initial, successor, extension, closure, exactly-one, group₁, group₂, group₃, group₄, file}
 use Rattle.encoding.specs.Loops.{each-in, each-elim, only-member}

@@ -10,7 +10,8 @@ use lib.Dec.{eqb}
 use borrow.Author.Tests.{eq-eqb, eqb-true}
 use Rattle.meaning.specs.Automata.{Aut, WellFormed}
 use Rattle.meaning.specs.Agreement.{Over}
-use Rattle.meaning.specs.Walk.{run, Walk, run-append, walk-map}
+use Rattle.meaning.specs.Walk.{run, Walk}
+use Rattle.meaning.specs.WalkLaws.{run-append, walk-map}
 use Rattle.meaning.specs.ShortWalk.{Numbered, ok-run}
 use Rattle.meaning.specs.Reachability.{Step, reach, reach-exact}
 use Rattle.meaning.specs.Product.{over-walk, walk-over}

@@ -1,15 +1,16 @@
--- THE FILE BY POSITION: one loop over a single number, the position, for a step that hands out clause by clause. At each position stands one
--- clause, or none where group 3 or 4 leaves it out.
-use mathlib.Core.Path.{_≡_, ap, ap₂, _∙_}
-use mathlib.Core.Bool.{_&&_}
-use mathlib.Core.List.{List, [], _∷_, _++_}
-use Prim.Native.Nat.{ℕ, _+_, _*_, _/_, _%_, _^_, _≤_}
-use native.Mathlib.Nat.{le-refl}
+-- DEFINITIONS: the file by position. One loop over a single number, the position, for a step that hands out clause by clause. At each position
+-- stands one clause, or none where group 3 or 4 leaves it out. That this is the file, in its order, is proved in `ByPosition`.
+use mathlib.Core.Bool.{_&&_, cond}
+use mathlib.Core.List.{List, [], _∷_}
+use Prim.Native.Nat.{ℕ, _+_, _-_, _*_, _/_, _%_, _^_}
+use lib.Dec.{ltb}
 use lib.IntN.{ℤ}
-use lib.ListN.{length}
 use Rattle.encoding.specs.Variables.{Task, Var}
-use Rattle.encoding.specs.Clauses.{each, only, totality, initial, successor, extension, closure, exactly-one, group₁, group₂, group₃, group₄, file}
-use Rattle.encoding.specs.Loops.{each-each, then-at, each-then, then-most-one, only-most-one}
+use Rattle.encoding.specs.Clauses.{only, totality, initial, successor, extension, closure, exactly-one}
+
+-- a loop over a positions, then another: what stands at x, in the second one counted from its own first
+unfoldable pub then-at : {A : Type 0} (a : ℕ) → (ℕ → List A) → (ℕ → List A) → ℕ → List A
+then-at a f g x = cond (ltb x a) (f x) (g (x - a))
 
 module _ (T : Task) (num : Var → ℕ) where
   abbrev n : ℕ
@@ -73,36 +74,3 @@ module _ (T : Task) (num : Var → ℕ) where
 
   unfoldable pub at-position : ℕ → List (List ℤ)
   at-position = then-at size₁ at₁ (then-at size₂ at₂ (then-at size₃ at₃ at₄))
-
-  by-position₁ : group₁ T num ≡ each size₁ at₁
-  unfolding group₁ at₁
-  by-position₁ = each-each n L _
-
-  by-position₂ : group₂ T num ≡ each size₂ at₂
-  unfolding group₂ at₂ successor-at each
-  by-position₂ =
-      ap (λ cs. initial T num ∷ cs) (each-each n n _ ∙ each-each (n * n) r _ ∙ each-each (n * n * r) L _)
-      ∙ each-then 1 (n * n * r * L) (λ x. initial T num ∷ []) successor-at
-
-  by-position₃ : group₃ T num ≡ each size₃ at₃
-  unfolding group₃ at₃
-  by-position₃ =
-      each-each n n _ ∙ each-each (n * n) n _ ∙ each-each (n * n * n) r _ ∙ each-each (n * n * n * r) r _ ∙ each-each (n * n * n * r * r) L _
-      ∙ each-each (n * n * n * r * r * L) M _ ∙ each-each (n * n * n * r * r * L * M) S _ ∙ each-each (n * n * n * r * r * L * M * S) M _
-
-  by-position₄ : group₄ T num ≡ each size₄ at₄
-  unfolding group₄ at₄
-  by-position₄ =
-      each-each n n _ ∙ each-each (n * n) r _ ∙ each-each (n * n * r) L _
-      ∙ each-each (n * n * r * L) M _ ∙ each-each (n * n * r * L * M) S _ ∙ each-each (n * n * r * L * M * S) M _
-
-  pub by-position : file T num ≡ each positions at-position
-  unfolding file at-position
-  by-position =
-      ap₂ _++_ by-position₁ (ap₂ _++_ by-position₂ (ap₂ _++_ by-position₃ by-position₄ ∙ each-then size₃ size₄ at₃ at₄) ∙ each-then size₂ _ at₂ _) ∙ each-then size₁ _ at₁ _
-
-  pub at-most-one : (x : ℕ) → length (at-position x) ≤ 1
-  unfolding at-position at₁ at₂ successor-at at₃ at₄
-  at-most-one =
-      then-most-one _ _ _ (λ x. le-refl 1)
-      (then-most-one _ _ _ (then-most-one _ _ _ (λ x. le-refl 1) (λ x. le-refl 1)) (then-most-one _ _ _ (λ x. only-most-one _ _) (λ x. only-most-one _ _)))

@@ -5,7 +5,8 @@ use mathlib.Core.Bool.{Bool, _&&_}
 use mathlib.Core.List.{List}
 use Prim.Native.Nat.{ℕ, zero, suc, _<_}
 use native.Mathlib.Omega.{arith}
-use Rattle.meaning.specs.Tests.{any, any-same}
+use Rattle.meaning.specs.Tests.{any}
+use Rattle.meaning.specs.TestLaws.{any-same}
 use Rattle.meaning.specs.Automata.{Aut, WellFormed, Word, Accepts, state, union}
 use Rattle.meaning.specs.Agreement.{Over, Agree, AgreeOn, lasso}
 use Rattle.meaning.specs.LassoWord.{lasso-over}

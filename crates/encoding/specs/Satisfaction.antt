@@ -7,7 +7,8 @@ use Prim.Native.Nat.{ℕ, zero, suc, _<_}
 use native.Mathlib.Nat.{not-suc-le-zero}
 use lib.IntN.{ℤ, pos, negℤ}
 use borrow.Author.Tests.{not-false}
-use Rattle.meaning.specs.Tests.{truth, any, any-find, any-false}
+use Rattle.meaning.specs.Tests.{any}
+use Rattle.meaning.specs.TestLaws.{truth, any-find, any-false}
 use Rattle.encoding.specs.Clauses.{Assignment, holds, Satisfied, each}
 use Rattle.encoding.specs.Loops.{each-in, each-elim}
 

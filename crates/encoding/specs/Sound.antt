@@ -7,7 +7,8 @@ use lib.Pow.{pow-pos}
 use Rattle.meaning.specs.Automata.{Aut, WellFormed}
 use Rattle.meaning.specs.Agreement.{Over}
 use Rattle.meaning.specs.BitSet.{has}
-use Rattle.meaning.specs.Walk.{run, run-append}
+use Rattle.meaning.specs.Walk.{run}
+use Rattle.meaning.specs.WalkLaws.{run-append}
 use Rattle.meaning.specs.LassoWord.{over-append}
 use Rattle.meaning.specs.Run.{after, run-lt}
 use Rattle.meaning.specs.ClosedLoop.{CyclesAgree}

@@ -1,1 +1,4 @@
 pub mod Left
+pub mod Prints
+pub mod Printed
+pub mod Batch

@@ -70,7 +70,9 @@ fn print_comparison(first: Automaton, second: Automaton) {
 fn print_refusal(x: Refusal, prefix: &[u8; Comparison::PREFIX], cycle: &[u8; Comparison::LOOP]) {
     match x {
         Refusal::Differ(p, l) => print_difference(p, l, prefix, cycle),
-        _ => output::refuse(x, b"hoa_compare", Place::first()),
+        _ => {
+            output::refuse(x, b"hoa_compare", Place::first());
+        }
     }
 }
 

@@ -15,14 +15,19 @@ fn main() {
         return usage();
     }
     let mut word = io::buffer();
-    let Number::Of(n) = input::number(2, &mut word) else {
+    let second = input::number(2, &mut word);
+    let states = second.number;
+    let Number::Of(n) = states else {
         return usage();
     };
-    let Number::Of(m) = input::number(3, &mut word) else {
+    let third = input::number(3, &mut word);
+    let sets = third.number;
+    let Number::Of(m) = sets else {
         return usage();
     };
     let mut text = [0u8; TEXT];
-    let given = input::from_argument(1, &mut text);
+    let held = input::from_argument(1, &mut text);
+    let given = held.given;
     if !given.accepted {
         return;
     }
@@ -53,7 +58,9 @@ fn print_decoded(reference: Automaton, n: usize, m: usize) {
     let place = told.place;
     let answer = decoded.answer;
     match answer {
-        Answer::Table => output::print_automaton(decoded.table),
+        Answer::Table => {
+            output::print_automaton(decoded.table);
+        }
         Answer::None => print_word(b"none\n"),
         Answer::Unknown => print_word(b"unknown\n"),
         Answer::Refused(x) => print_refusal(x, place, &prefix, &cycle),
@@ -76,7 +83,11 @@ fn print_refusal(
             output::refuse(x, b"standard input", place);
             output::print_word(prefix, p, cycle, l);
         }
-        Refusal::Dimensions(_, _) => output::refuse(x, b"hoa_decode", place),
-        _ => output::refuse(x, b"standard input", place),
+        Refusal::Dimensions(_, _) => {
+            output::refuse(x, b"hoa_decode", place);
+        }
+        _ => {
+            output::refuse(x, b"standard input", place);
+        }
     }
 }

@@ -19,7 +19,7 @@ use Rattle.hoa_text.specs.Basics.{isSome}
 use Rattle.hoa_text.specs.Tokens as Hoa
 use Rattle.hoa_text.specs.Grammar.{itemOf, isWord, isSign, next, rest, at, refuses, then}
 use Rattle.hoa_text.specs.Header.{inf, infs, condition, departs, accepting, setsRead, setsGiven, setsItem}
-use Rattle.hoa_text.specs.Offsets.{left}
+use Rattle.hoa_text.specs.Tokens.{left}
 use Rattle.scan.specs.declared.Token.{Token}
 use Rattle.scan.specs.declared.Token.the-variants.{Word, Item, Number, Quoted, Sign, Body, End, Abort, Unread, Over, Broken}
 use Rattle.scan.specs.Answers.{stream, Reads}

@@ -11,15 +11,14 @@ use lib.Dec.{ltb, leb}
 use lib.ListN.{length}
 use denote.Enum.Declared.{tagOf, declared}
 use types.Run.{OneOf}
-use Rattle.meaning.specs.Tests.{and-true}
+use Rattle.meaning.specs.TestLaws.{and-true}
 use Rattle.automaton.specs.declared.refusal.Refusal.{Refusal}
 use Rattle.automaton.specs.declared.refusal.Refusal.the-variants.{Form, Size}
 use Rattle.automaton.specs.declared.refusal.Refusal.the-variants as Because
 use Rattle.hoa_text.specs.Basics.{isSome}
-use Rattle.hoa_text.specs.Tokens.{Stream, stands, over, broken}
+use Rattle.hoa_text.specs.Tokens.{Stream, stands, over, broken, left}
 use Rattle.hoa_text.specs.Grammar.{next, rest, at, Result, refuses, Parsed, then}
 use Rattle.hoa_text.specs.Header.{Items, once, statesGiven, statesItem, startGiven, startItem, namesItem, setsItem, plain, skipped}
-use Rattle.hoa_text.specs.Offsets.{left}
 use Rattle.scan.specs.declared.Token.{Token}
 use Rattle.scan.specs.declared.Token.the-variants.{Number}
 use Rattle.scan.specs.Answers.{Reads}

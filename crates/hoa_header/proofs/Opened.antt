@@ -3,12 +3,12 @@ use mathlib.Core.Path.{_≡_, refl, sym, ap, _∙_, subst}
 use mathlib.Core.Bool.{true, false, true≢false, false≢true, and-false}
 use mathlib.Core.List.{List, [], _∷_, _++_}
 use mathlib.Core.Option.{Option, none, some}
-use Prim.Native.Nat.{ℕ, zero, suc, _+_, _≤_, _<_}
+use Prim.Native.Nat.{ℕ, zero, suc, _+_, _-_, _≤_, _<_}
 use native.Mathlib.Numerals.{add-one}
 use native.Mathlib.Omega.{arith}
 use borrow.Author.Tests.{lt-ltb, le-ltb}
 use lib.Dec.{eqb}
-use lib.ListN.{length, replicate, replicate-append-replicate}
+use lib.ListN.{length, drop, replicate, replicate-append-replicate}
 use lib.Seq.{slice}
 use denote.Enum.Declared.{tagOf, declared}
 use types.Run.{OneOf, miss}
@@ -18,13 +18,13 @@ use Rattle.automaton.specs.declared.refusal.Refusal.{Refusal}
 use Rattle.automaton.specs.declared.refusal.Refusal.the-variants.{Form, Undeclared}
 use Rattle.automaton.specs.declared.refusal.Refusal.the-variants as Because
 use Rattle.automaton.specs.Value.{empty}
-use Rattle.hoa_text.specs.Basics.{option, isSome}
-use Rattle.hoa_text.specs.Tokens.{item, Stream, stands}
+use Rattle.automaton.specs.Bytes.{bytes}
+use Rattle.hoa_text.specs.Basics.{option, isSome, begins}
+use Rattle.hoa_text.specs.Tokens.{item, Stream, stands, left}
 use Rattle.hoa_text.specs.Grammar.{isItem, isWord, at, gives, refuses, then, repeat, expect}
 use Rattle.hoa_text.specs.Header.{Items, Header, opening, opened, itemRead, noItems, header}
 use Rattle.hoa_text.specs.Repetition.{repeat-again, repeat-done, repeat-refuses}
 use Rattle.hoa_text.specs.HeaderProgress.{item-shrinks}
-use Rattle.hoa_text.specs.Offsets.{left}
 use Rattle.scan.specs.declared.Token.{Token}
 use Rattle.scan.specs.declared.Token.the-variants.{Word, Item, Number, Quoted, Sign, Body, End, Abort, Unread, Over, Broken}
 use Rattle.scan.specs.Answers.{stream, Reads}
@@ -91,7 +91,7 @@ module _ (h : Items) (o : ℕ) (u : Stream) where
 
 module _ (c : Code.Items) (o e : ℕ) where
   opens-refused : (z : Refusal) (r : HeaderRead) → r ≡ record { answer = Answer.Refused z; automaton = empty } → ((h : Items) → c ≡ kept h → (u : Stream) → opening h o u ≡ refuses z) → Opens c o e r
-  opens-refused z r q g h k s l = subst (λ r. Answered s (opening h o (left s e)) (r .automaton) (r .answer)) (sym q) (g h k (left s e), refl)
+  opens-refused z r q g h k s l b = subst (λ r. Answered s (opening h o (left s e)) (r .automaton) (r .answer)) (sym q) (g h k (left s e), refl)
 
   pub no-states : (r : HeaderRead) → r ≡ record { answer = Answer.Refused (Because.Item o); automaton = empty } → c .counted ≡ false → Opens c o e r
   no-states r q f = opens-refused (Because.Item o) r q (λ h k u. without-states h o u (sym (ap (λ c. c .counted) k) ∙ f))
@@ -139,7 +139,7 @@ module _ (c : Code.Items) (o e : ℕ) where
             ∙ ap (λ o. refuses (Undeclared o)) (sym (start-stands h k n p x p₂))
 
         pub opens : c .start < c .states → (a : Automaton) → Unfilled c a → Opens c o e (record { answer = Answer.Body e; automaton = a })
-        opens f a g h k s l =
+        opens f a g h k s l b =
             let (n, p) = states-found h k in
             let (x, p₂) = start-found h k in
             let (m, p₃) = sets-found h k in
@@ -155,6 +155,7 @@ module _ (c : Code.Items) (o e : ℕ) where
                 sets = ap (λ c. c .sets) k ∙ ap (λ y. option y 0 (λ m. m)) p₃;
               });
               to = l;
+              behind = b;
             }
 
 -- ---- the items, one by one
@@ -195,8 +196,11 @@ module _ (s : List ℕ) (i : ℕ) (c : Code.Items) (e : ℕ) (f : ItemsSoFar s i
   -- the body
   pub body-opens : (o : ℕ) → Reads s e (Body o) → (r : HeaderRead) → Opens c o (o + 8) r → ReadsItems s i r
   unfolding itemRead
-  body-opens o t r g = go (r .automaton) (r .answer) (g (f .items) (f .keeps) s (t .lies .to))
+  body-opens o t r g = go (r .automaton) (r .answer) (g (f .items) (f .keeps) s (t .lies .to) spelled)
     where
+      spelled : begins (bytes "--BODY--") (drop (o + 8 - 8) s) ≡ true
+      spelled = let m : o ≡ o + 8 - 8 = omega arith in subst (λ n. begins (bytes "--BODY--") (drop n s) ≡ true) m (t .lies .is)
+
       here : itemRead (f .items) (left s e) ≡ then (opening (f .items) o (left s (o + 8))) opened
       here = ap (itemRead (f .items)) (t .is)
 
@@ -206,6 +210,7 @@ module _ (s : List ℕ) (i : ℕ) (c : Code.Items) (e : ℕ) (f : ItemsSoFar s i
         is = f .is ∙ repeat-done itemRead item-shrinks (f .items) (left s e) (here ∙ ap (λ y. then y opened) (x .is));
         automaton = x .automaton;
         to = x .to;
+        behind = x .behind;
       }
       go a (Answer.Refused z) x = (f .is ∙ repeat-refuses itemRead item-shrinks (f .items) (left s e) (here ∙ ap (λ y. then y opened) (x .0)), x .1)
 

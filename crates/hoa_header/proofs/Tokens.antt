@@ -12,11 +12,10 @@ use lib.Seq.{slice}
 use denote.Enum.Declared.{tagOf, declared}
 use types.Run.{OneOf, miss}
 use Rattle.hoa_text.specs.Basics.{option, same}
-use Rattle.hoa_text.specs.Tokens.{word, item, number, quoted, Stream, stands, over, broken}
+use Rattle.hoa_text.specs.Tokens.{word, item, number, quoted, Stream, stands, over, broken, left}
 use Rattle.hoa_text.specs.Tokens as Hoa
 use Rattle.hoa_text.specs.Grammar.{itemOf, wordOf, numberOf, isNumber, next, rest, peek}
 use Rattle.hoa_text.specs.Header.{plain}
-use Rattle.hoa_text.specs.Offsets.{left}
 use Rattle.scan.specs.declared.Token.{Token}
 use Rattle.scan.specs.declared.Token.the-variants.{Word, Item, Number, Quoted, Sign, Body, End, Abort, Unread, Over, Broken}
 use Rattle.scan.specs.Answers.{stream, Reads, isSignOf, Behind}

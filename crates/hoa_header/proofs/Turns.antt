@@ -7,11 +7,11 @@ use native.Mathlib.Omega.{arith}
 use lib.ListN.{length, getD}
 use lib.Seq.{slice, slice-cons}
 use Rattle.automaton.specs.declared.refusal.Refusal.the-variants.{Form}
-use Rattle.hoa_text.specs.Basics.{bytes, same}
-use Rattle.hoa_text.specs.Tokens.{item, Stream, stands, between}
+use Rattle.automaton.specs.Bytes.{bytes}
+use Rattle.hoa_text.specs.Basics.{same}
+use Rattle.hoa_text.specs.Tokens.{item, Stream, stands, between, left}
 use Rattle.hoa_text.specs.Grammar.{Result, gives, Parsed, Turn, again, onward}
 use Rattle.hoa_text.specs.Header.{Items, Header, once, statesItem, startItem, namesItem, setsItem, small, itemRead}
-use Rattle.hoa_text.specs.Offsets.{left}
 use Rattle.hoa_names.specs.declared.Step.{Step}
 use Rattle.hoa_names.specs.declared.Step.the-variants.{Next, Refused}
 use Rattle.hoa_header.specs.declared.items.ItemRead.{ItemRead}

@@ -4,10 +4,9 @@ use mathlib.Core.Bool.{Bool}
 use mathlib.Core.List.{List}
 use Prim.Native.Nat.{ℕ, zero, suc, _/_, _%_, _≤_, _<_}
 use lib.ListN.{length}
-use Rattle.hoa_text.specs.Tokens.{Token}
+use Rattle.hoa_text.specs.Tokens.{Token, left}
 use Rattle.hoa_text.specs.Grammar.{isWord, isSign, isNumber, gives, refuses, Parsed}
 use Rattle.hoa_text.specs.Header.{Items, setsRead, setsItem}
-use Rattle.hoa_text.specs.Offsets.{left}
 use Rattle.hoa_header.specs.declared.acceptance.SetsRead.{SetsRead}
 use Rattle.hoa_header.specs.declared.acceptance.SetsRead.the-variants.{Sets, Refused}
 

@@ -6,9 +6,8 @@ use mathlib.Core.List.{List}
 use Prim.Native.Nat.{ℕ, _≤_}
 use lib.ListN.{length}
 use Rattle.hoa_text.specs.Basics.{option, same}
-use Rattle.hoa_text.specs.Tokens.{Token}
+use Rattle.hoa_text.specs.Tokens.{Token, left}
 use Rattle.hoa_text.specs.Grammar.{itemOf, wordOf, next, rest}
-use Rattle.hoa_text.specs.Offsets.{left}
 
 -- the item name, and the word, of these bytes
 abbrev pub isItemOf : List ℕ → Token → Bool

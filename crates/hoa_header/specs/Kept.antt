@@ -6,10 +6,9 @@ use Prim.Native.Nat.{ℕ, _+_, _≤_, _<_}
 use lib.ListN.{length}
 use lib.Seq.{slice}
 use Rattle.hoa_text.specs.Basics.{option, isSome}
-use Rattle.hoa_text.specs.Tokens.{item, Stream, stands}
+use Rattle.hoa_text.specs.Tokens.{item, Stream, stands, left}
 use Rattle.hoa_text.specs.Grammar.{Result, gives, refuses, Parsed, Turn, again}
 use Rattle.hoa_text.specs.Header.{Items, Header, once, statesGiven, statesItem, startItem, namesItem, setsItem, skipped, itemRead}
-use Rattle.hoa_text.specs.Offsets.{left}
 use Rattle.hoa_names.specs.declared.Step.{Step}
 use Rattle.hoa_names.specs.declared.Step.the-variants.{Next, Refused}
 use Rattle.hoa_names.specs.Answers.{held}

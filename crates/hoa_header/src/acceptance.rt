@@ -14,7 +14,7 @@ ghost use Prim.Native.Nat.{_≤_};
 ghost use lib.ListN.{length};
 ghost use Rattle.hoa_text.specs.Grammar.{refuses};
 ghost use Rattle.hoa_text.specs.Header.{condition, departs, accepting};
-ghost use Rattle.hoa_text.specs.Offsets.{left};
+ghost use Rattle.hoa_text.specs.Tokens.{left};
 ghost use mathlib.Core.List.{[]};
 ghost use Rattle.hoa_header.specs.Expected.{Past};
 ghost use Rattle.hoa_header.specs.Acceptance.{ReadsSets, Accepts, tokenOf};

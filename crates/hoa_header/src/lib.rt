@@ -25,7 +25,7 @@ ghost use Rattle.hoa_header.specs.Answers.{Answers};
 ghost use Rattle.hoa_header.specs.Opening.{ReadsItems, Opens, Unfilled};
 ghost use Rattle.hoa_header.specs.declared.Answer.the-variants.{Refused};
 
-// The offset behind `--BODY--`, or why the header is refused.
+// The offset directly behind `--BODY--`, or why the header is refused.
 pub enum Answer {
     Body(usize),
     Refused(Refusal),

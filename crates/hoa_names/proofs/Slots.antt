@@ -9,7 +9,7 @@ use native.Mathlib.Numerals.{add-one}
 use native.Mathlib.Omega.{arith}
 use lib.ListN.{length, getD, take, drop, set, length-set, length-append, drop-of-length-le, List·getD-append, List·getD-eq-default}
 use lib.Seq.{slice, paste, paste-suc, length-paste-head, length-paste, length-take-le, drop-cons, getD-drop, getD-take, getD-append-add, length-slice, ext-getD, getD-set-same, getD-set-other}
-use Rattle.meaning.specs.Counting.{each-length, each-at}
+use Rattle.meaning.specs.CountingLaws.{each-length, each-at}
 use Rattle.automaton.specs.Rows.{rows-length, rows-at}
 use Rattle.hoa_text.specs.Basics.{same}
 use Rattle.hoa_text.specs.Header.{among}

@@ -1,5 +1,6 @@
 -- Laws of the names in the text, one by one.
 use mathlib.Core.Path.{_≡_, refl, sym, ap, _∙_, subst}
+use mathlib.Core.Bool.{false}
 use mathlib.Core.List.{List, [], _∷_, _++_}
 use Prim.Native.Nat.{ℕ, suc, _+_, _-_, _≤_, _<_}
 use native.Mathlib.Decide.{decLt, ℕ-discrete}
@@ -11,9 +12,10 @@ use denote.Enum.Declared.{tagOf, declared}
 use types.Run.{OneOf, miss}
 use Rattle.automaton.specs.declared.refusal.Refusal.{Refusal}
 use Rattle.automaton.specs.declared.refusal.Refusal.the-variants.{Form, Size}
+use Rattle.hoa_text.specs.Tokens.{blank, left}
 use Rattle.hoa_text.specs.Grammar.{at, refuses, then}
 use Rattle.hoa_text.specs.Header.{Items, nameGiven, naming, namesRead, namesGiven, namesItem}
-use Rattle.hoa_text.specs.Offsets.{left}
+use Rattle.hoa_text.specs.RunOffsets.{digit-blank}
 use Rattle.hoa_text.specs.Names.{last-name}
 use Rattle.scan.specs.declared.Token.{Token}
 use Rattle.scan.specs.declared.Token.the-variants.{Word, Item, Number, Quoted, Sign, Body, End, Abort, Unread, Over, Broken}
@@ -45,6 +47,7 @@ module _ (s : List ℕ) (i : ℕ) (n : Names) where
         short = g .short;
         from = omega (arith, h .lies .from, h .lies .longer, g .end);
         to = omega (arith, h .lies .to, g .end);
+        behind = let m : e ≡ d - 1 = omega (arith, g .end) in subst (λ n. blank (getD s n 0) ≡ false) m (ap blank (h .lies .last));
       }
       go m (Refused z) g = λ k. token k ∙ g (naming k (ws ++ (w ∷ [])) (left s (e + 1)))
 
@@ -69,7 +72,7 @@ module _ (s : List ℕ) (i : ℕ) (n : Names) where
 
 -- ---- the names so far
 
--- the first j of k names, which n holds; the text behind them begins at e
+-- the first j of k names, which n holds; e is directly behind the last token of them
 pub record SoFar (s : List ℕ) (i k : ℕ) (n : Names) (e j : ℕ) : Type 0 where
   pub words : List (List ℕ)
   pub is : naming k [] (left s i) ≡ naming (k - j) words (left s e)
@@ -79,18 +82,29 @@ pub record SoFar (s : List ℕ) (i k : ℕ) (n : Names) (e j : ℕ) : Type 0 whe
   pub most : j ≤ k
   pub from : i ≤ e
   pub to : e ≤ length s
+  pub behind : blank (getD s (e - 1) 0) ≡ false
 
 module _ (s : List ℕ) (i k : ℕ) (few : k ≤ 4) where
-  pub so-far-none : i ≤ length s → (n : Names) → n ≡ held [] → SoFar s i k n i 0
-  so-far-none h n e =
+  pub so-far-none : i ≤ length s → blank (getD s (i - 1) 0) ≡ false → (n : Names) → n ≡ held [] → SoFar s i k n i 0
+  so-far-none h b n e =
       let m : k ≡ k - 0 = omega arith in
-      record { words = []; is = ap (λ k. naming k [] (left s i)) m; holds = e; count = refl; short = λ i. omega arith; most = omega arith; from = omega arith; to = h }
+      record {
+        words = [];
+        is = ap (λ k. naming k [] (left s i)) m;
+        holds = e;
+        count = refl;
+        short = λ i. omega arith;
+        most = omega arith;
+        from = omega arith;
+        to = h;
+        behind = b;
+      }
 
   module _ (n : Names) (e j : ℕ) (h : SoFar s i k n e j) where
     pub so-far-done : k ≤ j → Read s i (naming k [] (left s i)) n e
     so-far-done l =
         let m : k - j ≡ 0 = omega arith in
-        record { words = h .words; is = h .is ∙ ap (λ k. naming k (h .words) (left s e)) m; holds = h .holds; from = h .from; to = h .to }
+        record { words = h .words; is = h .is ∙ ap (λ k. naming k (h .words) (left s e)) m; holds = h .holds; from = h .from; to = h .to; behind = h .behind }
 
     module _ (l : j < k) where
       so-far-holds : Holds (h .words) n
@@ -127,6 +141,7 @@ module _ (s : List ℕ) (i k : ℕ) (few : k ≤ 4) where
               most = omega arith;
               from = omega (arith, h .from, m .from);
               to = m .to;
+              behind = m .behind;
             }
           where
             go : (i : ℕ) (w : List ℕ) → length w ≤ 16 → Dec (i ≡ length (h .words)) → length (getD (h .words ++ (w ∷ [])) i []) ≤ 16
@@ -144,6 +159,9 @@ module _ (s : List ℕ) (i : ℕ) where
   no-count r o t h g e q = refused-names r (Form o) q (λ k. ap (λ x. then x (namesGiven k (at (left s i)))) (number-due (left s i) o (number-missing s i t h g) e))
 
   module _ (o k e : ℕ) (h : Reads s i (Number o k e)) where
+    pub count-ends : blank (getD s (e - 1) 0) ≡ false
+    count-ends = digit-blank (getD s (e - 1) 0) (h .lies .within (e - 1) (omega (arith, h .lies .longer)) (omega (arith, h .lies .longer)))
+
     pub count-over : 4 < k → (r : NamesRead) → r ≡ record { step = Refused (Size o); names = held [] } → ReadsNames s i r
     count-over l r q = refused-names r (Size o) q (λ g. ap (namesItem g) (h .is) ∙ rw (lt-leb k 4 l))
 
@@ -160,5 +178,6 @@ module _ (s : List ℕ) (i : ℕ) where
           holds = x .holds;
           from = omega (arith, h .lies .from, h .lies .longer, x .from);
           to = x .to;
+          behind = x .behind;
         }
         go n (Refused z) x = (counted ∙ ap (λ y. then y (namesRead g)) (x .0), x .1)

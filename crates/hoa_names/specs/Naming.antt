@@ -1,24 +1,26 @@
 -- Contracts of the functions that read the names, one by one.
 use mathlib.Core.Path.{_≡_}
+use mathlib.Core.Bool.{false}
 use mathlib.Core.List.{List, [], _∷_, _++_}
-use Prim.Native.Nat.{ℕ, suc, _≤_, _<_}
+use Prim.Native.Nat.{ℕ, suc, _-_, _≤_, _<_}
 use lib.ListN.{length, getD}
+use Rattle.hoa_text.specs.Tokens.{blank, left}
 use Rattle.hoa_text.specs.Grammar.{gives, refuses, Parsed}
 use Rattle.hoa_text.specs.Header.{nameGiven, naming}
-use Rattle.hoa_text.specs.Offsets.{left}
 use Rattle.hoa_names.specs.declared.Names.{Names}
 use Rattle.hoa_names.specs.declared.NamesRead.{NamesRead}
 use Rattle.hoa_names.specs.declared.Step.{Step}
 use Rattle.hoa_names.specs.declared.Step.the-variants.{Next, Refused}
 use Rattle.hoa_names.specs.Answers.{held}
 
--- x gives the names that n holds, and the text behind them begins at e
+-- x gives the names that n holds, and e is directly behind the last token of them
 pub record Read (s : List ℕ) (i : ℕ) (x : Parsed (List (List ℕ))) (n : Names) (e : ℕ) : Type 0 where
   pub words : List (List ℕ)
   pub is : x ≡ gives (words, left s e)
   pub holds : n ≡ held words
   pub from : i ≤ e
   pub to : e ≤ length s
+  pub behind : blank (getD s (e - 1) 0) ≡ false
 
 abbrev pub Answered : List ℕ → ℕ → Parsed (List (List ℕ)) → Names → Step → Type 0
 Answered s i x n (Next e) = Read s i x n e
@@ -55,6 +57,7 @@ pub record More (s : List ℕ) (i : ℕ) (ws : List (List ℕ)) (n : Names) (e :
   pub short : length word ≤ 16
   pub from : i < e
   pub to : e ≤ length s
+  pub behind : blank (getD s (e - 1) 0) ≡ false
 
 abbrev pub MoreAnswered : List ℕ → ℕ → List (List ℕ) → Names → Step → Type 0
 MoreAnswered s i ws n (Next e) = More s i ws n e

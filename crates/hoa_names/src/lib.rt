@@ -8,11 +8,12 @@ use scan::Token;
 use scan::next_token;
 use scan::offset;
 ghost use mathlib.Core.Path.{_≡_};
+ghost use mathlib.Core.Bool.{false};
 ghost use mathlib.Core.List.{[]};
-ghost use Prim.Native.Nat.{_≤_};
-ghost use lib.ListN.{length};
+ghost use Prim.Native.Nat.{_-_, _≤_};
+ghost use lib.ListN.{length, getD};
+ghost use Rattle.hoa_text.specs.Tokens.{blank, left};
 ghost use Rattle.hoa_text.specs.Header.{naming};
-ghost use Rattle.hoa_text.specs.Offsets.{left};
 ghost use Rattle.hoa_names.specs.Answers.{held, ReadsNames};
 ghost use Rattle.hoa_names.specs.Naming.{Answers};
 ghost use Rattle.hoa_names.specs.declared.Step.the-variants.{Refused};
@@ -24,7 +25,7 @@ pub struct Names {
     pub bytes: [u8; Automaton::NAMES],
 }
 
-// The offset behind what was read, or why it is refused.
+// The offset directly behind what was read, or why it is refused.
 pub enum Step {
     Next(usize),
     Refused(Refusal),
@@ -51,7 +52,7 @@ pub fn propositions(text: &[u8], at: usize) -> NamesRead
 }
 
 fn names_from(text: &[u8], at: usize, count: usize) -> NamesRead
-    requires { ⌜ (at ≤ length (now text)) × (count ≤ 4) ⌝ }
+    requires { ⌜ (at ≤ length (now text)) × (count ≤ 4) × (blank (getD (now text) (at - 1) 0) ≡ false) ⌝ }
     ensures { λ r. ⌜ Answers (now (text .entry)) at (naming count [] (left (now (text .entry)) at)) r ⌝ }
 {
     let mut names = none();
@@ -78,6 +79,7 @@ fn names_from(text: &[u8], at: usize, count: usize) -> NamesRead
     }
 }
 
+// No names.
 pub fn none() -> Names
     ensures { λ r. ⌜ r ≡ held [] ⌝ }
 {

@@ -9,7 +9,8 @@ fn main() {
         return;
     }
     let mut text = [0u8; TEXT];
-    let given = input::from_input(&mut text);
+    let held = input::from_input(&mut text);
+    let given = held.given;
     if !given.accepted {
         return;
     }

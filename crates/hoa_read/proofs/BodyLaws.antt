@@ -9,7 +9,7 @@ use Rattle.hoa_text.specs.Body.{Table, noStates, bodyRead, body}
 use Rattle.hoa_text.specs.Reading.{ended}
 use Rattle.hoa_text.specs.Repetition.{repeat-again, repeat-done, repeat-refuses}
 use Rattle.hoa_text.specs.BodyProgress.{body-shrinks}
-use Rattle.hoa_text.specs.Offsets.{left}
+use Rattle.hoa_text.specs.Tokens.{left}
 use Rattle.hoa_read.specs.declared.tables.Table as Code
 use Rattle.hoa_read.specs.Tables.{Holds}
 

@@ -13,12 +13,11 @@ use lib.Pow.{pow-lt}
 use Rattle.automaton.specs.declared.refusal.Refusal.{Refusal}
 use Rattle.automaton.specs.declared.refusal.Refusal.the-variants.{Form, Undeclared}
 use Rattle.automaton.specs.Powers.{power-is}
-use Rattle.hoa_text.specs.Tokens.{Stream, stands, over, broken}
+use Rattle.hoa_text.specs.Tokens.{Stream, stands, over, broken, left}
 use Rattle.hoa_text.specs.Grammar.{numberOf, isSign, next, rest, at, gives, refuses, peek, due, then}
 use Rattle.hoa_text.specs.Labels.{Formula, label}
 use Rattle.hoa_text.specs.Header.{Header}
 use Rattle.hoa_text.specs.Body.{Table, marks, marked, destinationGiven, labelGiven, edge}
-use Rattle.hoa_text.specs.Offsets.{left}
 use Rattle.scan.specs.declared.Token.the-variants.{Number}
 use Rattle.scan.specs.Answers.{Reads, Behind}
 use Rattle.scan.proofs.Due.{number-due}

@@ -10,7 +10,8 @@ use lib.Bits.{bitXor}
 use lib.ListN.{getD}
 use denote.Enum.Declared.{tagOf, declared}
 use types.Run.{OneOf, miss}
-use Rattle.meaning.specs.BitSet.{has, has-not}
+use Rattle.meaning.specs.BitSet.{has}
+use Rattle.meaning.specs.BitSetLaws.{has-not}
 use Rattle.automaton.specs.declared.Automaton.{Automaton}
 use Rattle.automaton.specs.declared.refusal.Refusal.{Refusal}
 use Rattle.automaton.specs.declared.refusal.Refusal.the-variants.{Form, Body, NoEdge}
@@ -19,7 +20,7 @@ use Rattle.hoa_text.specs.Grammar.{at, gives, refuses}
 use Rattle.hoa_text.specs.Header.{Header}
 use Rattle.hoa_text.specs.Body.{Table, letters}
 use Rattle.hoa_text.specs.Reading.{made, noBody, noEdge, whole, ended}
-use Rattle.hoa_text.specs.Offsets.{left}
+use Rattle.hoa_text.specs.Tokens.{left}
 use Rattle.hoa_text.specs.First.{none-first, first-some}
 use Rattle.scan.specs.declared.Token.{Token}
 use Rattle.scan.specs.declared.Token.the-variants.{Word, Item, Number, Quoted, Sign, Abort, Unread, Over, Broken}

@@ -13,18 +13,19 @@ use lib.ListN.{length, getD}
 use lib.Seq.{slice}
 use denote.Enum.Declared.{tagOf, declared}
 use types.Run.{OneOf, miss}
-use Rattle.meaning.specs.BitSet.{has, has-and}
+use Rattle.meaning.specs.BitSet.{has}
+use Rattle.meaning.specs.BitSetLaws.{has-and}
 use Rattle.automaton.specs.declared.Automaton.{Automaton}
 use Rattle.automaton.specs.declared.refusal.Refusal.{Refusal}
 use Rattle.automaton.specs.declared.refusal.Refusal.the-variants.{Form, Undeclared, Body, SecondEdge}
 use Rattle.automaton.specs.Powers.{power-is}
-use Rattle.hoa_text.specs.Basics.{option, isSome, bytes, same}
-use Rattle.hoa_text.specs.Tokens.{Stream}
+use Rattle.automaton.specs.Bytes.{bytes}
+use Rattle.hoa_text.specs.Basics.{option, isSome, same}
+use Rattle.hoa_text.specs.Tokens.{Stream, left}
 use Rattle.hoa_text.specs.Grammar.{numberOf, quotedOf, next, rest, at, gives, refuses, Parsed, peek, then, onward}
 use Rattle.hoa_text.specs.Labels.{Formula, holds}
 use Rattle.hoa_text.specs.Header.{Header}
 use Rattle.hoa_text.specs.Body.{Table, letters, unquoted, stateGiven, stateItem, marked, secondEdge, withEdge, marksGiven, edge, bodyRead}
-use Rattle.hoa_text.specs.Offsets.{left}
 use Rattle.scan.specs.declared.Token.{Token}
 use Rattle.scan.specs.declared.Token.the-variants.{Word, Item, Number, Quoted, Sign, Abort, Unread, Over, Broken}
 use Rattle.scan.specs.declared.Token.the-variants as Token

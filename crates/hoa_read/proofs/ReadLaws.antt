@@ -1,5 +1,5 @@
 -- Laws of the whole text: its length, its header, its body.
-use mathlib.Core.Path.{_≡_, sym, ap, _∙_}
+use mathlib.Core.Path.{_≡_, refl, sym, ap, _∙_}
 use mathlib.Core.List.{List}
 use Prim.Native.Nat.{ℕ, _≤_, _<_}
 use borrow.Author.Tests.{le-leb, lt-leb}
@@ -7,17 +7,27 @@ use lib.ListN.{length}
 use Rattle.automaton.specs.declared.Automaton.{Automaton}
 use Rattle.automaton.specs.declared.refusal.Refusal.{Refusal}
 use Rattle.automaton.specs.declared.refusal.Refusal.the-variants.{Size}
-use Rattle.hoa_text.specs.Tokens.{tokens}
-use Rattle.hoa_text.specs.Grammar.{refuses, then}
+use Rattle.hoa_text.specs.Tokens.{tokens, left}
+use Rattle.hoa_text.specs.Grammar.{Result, gives, refuses, then}
 use Rattle.hoa_text.specs.Header.{Header, header}
 use Rattle.hoa_text.specs.Body.{body}
 use Rattle.hoa_text.specs.Reading.{ended, reading, read}
-use Rattle.hoa_text.specs.Offsets.{left}
 use Rattle.hoa_header.specs.Answers.{Opened}
 use Rattle.hoa_header.specs.Fits.{opened-fits}
 use Rattle.hoa_read.specs.declared.Reading.{Reading}
 use Rattle.hoa_read.specs.Opened.{Bounded, Opens, opened-bounded}
-use Rattle.hoa_read.specs.Told.{told}
+use Rattle.hoa_read.specs.Told.{told, returned, fault, Tells}
+
+-- ---- document 01's number and values
+
+pub returned-told : (x : Result Automaton) → returned (told x .answer) ≡ fault x
+returned-told (gives a) = refl
+returned-told (refuses f) = refl
+
+pub tells : (x : Result Automaton) (r : Reading) → r ≡ told x → Tells x r
+tells x r e = record { is = e; number = ap (λ (r : Reading). returned (r .answer)) e ∙ returned-told x }
+
+-- ---- the text
 
 module _ (s : List ℕ) where
   pub read-long : 65536 < length s → told (refuses (Size 65536)) ≡ told (read s)

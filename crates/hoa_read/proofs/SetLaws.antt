@@ -1,15 +1,12 @@
 -- Laws of sets as numbers, and of their lowest members.
-use mathlib.Core.Path.{_≡_, refl, ap, _∙_}
+use mathlib.Core.Path.{_≡_, ap, _∙_}
 use mathlib.Core.Bool.{cond}
 use mathlib.Core.Option.{Option, none, some}
-use Prim.Native.Nat.{ℕ, _/_, _%_, _*_, _^_, _≤_, _<_}
+use Prim.Native.Nat.{ℕ, _%_, _*_, _^_, _≤_, _<_}
 use native.Mathlib.Nat.{mod-eq-of-lt}
 use native.Mathlib.Omega.{arith}
-use borrow.Author.Tests.{eqb-true}
-use lib.Dec.{eqb}
 use lib.Pow.{pow-lt}
-use Rattle.meaning.specs.Tests.{all, all-at}
-use Rattle.meaning.specs.BitSet.{digit, bit, has, digit-bit}
+use Rattle.meaning.specs.BitSet.{has}
 use Rattle.hoa_text.specs.Basics.{first}
 use Rattle.hoa_text.specs.First.{none-first, first-some}
 use Rattle.hoa_read.specs.Sets.{Lowest}
@@ -21,11 +18,6 @@ single-is i h =
     let l : 2 ^ i < 65536 = pow-lt h in
     let e : 1 * 2 ^ i ≡ 2 ^ i = omega arith in
     rw e (mod-eq-of-lt l)
-
-pub has-single : (p q : ℕ) → p < 16 → q < 16 → has (2 ^ p) q ≡ eqb q p
-has-single p q hp hq =
-    let row = all-at 16 (λ p. all 16 (λ q. eqb (2 ^ p / 2 ^ q % 2) (bit (eqb q p)))) refl p hp in
-    ap digit (eqb-true (2 ^ p / 2 ^ q % 2) (bit (eqb q p)) (all-at 16 (λ q. eqb (2 ^ p / 2 ^ q % 2) (bit (eqb q p))) row q hq)) ∙ digit-bit (eqb q p)
 
 -- ---- the first that there is, by the lowest member
 

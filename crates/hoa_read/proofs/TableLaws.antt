@@ -12,11 +12,13 @@ use lib.Bits.{bitOr}
 use lib.Dec.{ltb, eqb}
 use lib.ListN.{length, getD, set, replicate, length-set, getD-replicate}
 use lib.Seq.{ext-getD, getD-set-same, getD-set-other}
-use Rattle.meaning.specs.BitSet.{has, has-or, has-zero}
-use Rattle.meaning.specs.Counting.{each-at}
+use Rattle.meaning.specs.BitSet.{has}
+use Rattle.meaning.specs.BitSetLaws.{has-or, has-zero}
+use Rattle.meaning.specs.CountingLaws.{each-at}
 use Rattle.automaton.specs.declared.Automaton.{Automaton}
 use Rattle.automaton.specs.Value.{rows}
 use Rattle.automaton.specs.Rows.{rows-length}
+use Rattle.hoa_text.specs.SingleSets.{has-single}
 use Rattle.hoa_text.specs.Basics.{option, isSome}
 use Rattle.hoa_text.specs.Labels.{Formula, holds}
 use Rattle.hoa_text.specs.Header.{Header}
@@ -27,7 +29,6 @@ use Rattle.labels.specs.Answers.{Satisfy}
 use Rattle.hoa_read.specs.declared.tables.Table.{Table}
 use Rattle.hoa_read.specs.Opened.{Opens}
 use Rattle.hoa_read.specs.Tables.{Holds, HoldsNone, HoldsState, HoldsEdge, Filled}
-use Rattle.hoa_read.proofs.SetLaws.{has-single}
 
 -- ---- cells
 
@@ -94,7 +95,7 @@ holds-none a h o = record {
 pub holds-state : (u : Table) (p s : ℕ) → p < 16 → s ≡ 2 ^ p
     → HoldsState u p (record { named = bitOr s (u .named); given = u .given; current = p; destinations = u .destinations; marks = u .marks })
 holds-state u p s l e h t g = record {
-  named = λ q k. has-or s (u .named) q ∙ ap₂ (λ a b. a || b) (ap (λ n. has n q) e ∙ has-single p q l k) (g .named q k);
+  named = λ q k. has-or s (u .named) q ∙ ap₂ (λ a b. a || b) (ap (λ n. has n q) e ∙ has-single p q) (g .named q k);
   given = g .given;
   current = sym (ap (λ b. cond b (some p) none) (lt-ltb p 16 l));
   destinations = g .destinations;

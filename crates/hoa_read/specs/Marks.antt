@@ -6,7 +6,7 @@ use Prim.Native.Nat.{ℕ, _≤_, _<_}
 use lib.ListN.{length}
 use Rattle.hoa_text.specs.Grammar.{numberOf, peek, gives, refuses, Parsed}
 use Rattle.hoa_text.specs.Body.{marks}
-use Rattle.hoa_text.specs.Offsets.{left}
+use Rattle.hoa_text.specs.Tokens.{left}
 use Rattle.hoa_read.specs.declared.edges.MarksRead.{MarksRead}
 use Rattle.hoa_read.specs.declared.edges.MarksRead.the-variants.{Marks, Refused}
 

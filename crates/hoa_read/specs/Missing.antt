@@ -12,7 +12,7 @@ use Rattle.hoa_text.specs.Basics.{isSome}
 use Rattle.hoa_text.specs.Header.{Header}
 use Rattle.hoa_text.specs.Body.{Table, letters}
 use Rattle.hoa_text.specs.Reading.{made, noEdge, whole, ended}
-use Rattle.hoa_text.specs.Offsets.{left}
+use Rattle.hoa_text.specs.Tokens.{left}
 use Rattle.hoa_read.specs.Opened.{Opens}
 use Rattle.hoa_read.specs.Tables.{Holds}
 use Rattle.hoa_read.specs.Told.{told}

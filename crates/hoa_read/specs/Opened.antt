@@ -1,4 +1,4 @@
--- DEFINITION of the value that the header hands over (`Opens`), and its bounds, which hold for every header that is read.
+-- The value that the header hands over to the body (`Opens`), and its bounds, which hold for every header that is read.
 use mathlib.Core.Path.{_≡_, ap}
 use Prim.Native.Nat.{_≤_}
 use native.Mathlib.Omega.{arith}

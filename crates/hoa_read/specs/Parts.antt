@@ -5,12 +5,11 @@ use Prim.Native.Nat.{ℕ, _≤_, _<_}
 use lib.ListN.{length}
 use Rattle.meaning.specs.BitSet.{has}
 use Rattle.automaton.specs.declared.Automaton.{Automaton}
-use Rattle.hoa_text.specs.Tokens.{Stream}
+use Rattle.hoa_text.specs.Tokens.{Stream, left}
 use Rattle.hoa_text.specs.Grammar.{Result, gives, refuses, then, Turn, again, done, onward}
 use Rattle.hoa_text.specs.Labels.{Formula}
 use Rattle.hoa_text.specs.Header.{Header}
 use Rattle.hoa_text.specs.Body.{Table, withState, unquoted, stateItem, marked, withEdge, marksGiven, edge, bodyRead}
-use Rattle.hoa_text.specs.Offsets.{left}
 use Rattle.labels.specs.Answers.{Satisfy}
 use Rattle.hoa_read.specs.Opened.{Opens}
 use Rattle.hoa_read.specs.Tables.{Holds}

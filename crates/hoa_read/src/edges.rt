@@ -10,7 +10,7 @@ use scan::offset;
 ghost use Prim.Native.Nat.{_≤_, _<_};
 ghost use lib.ListN.{length};
 ghost use Rattle.hoa_text.specs.Body.{marks, marked};
-ghost use Rattle.hoa_text.specs.Offsets.{left};
+ghost use Rattle.hoa_text.specs.Tokens.{left};
 ghost use Rattle.hoa_read.specs.Marks.{MarksAnswer, ClosedAnswer};
 ghost use Rattle.hoa_read.specs.Edges.{EdgeAnswer, LabelledAnswer};
 

@@ -9,6 +9,7 @@ use automaton::Automaton;
 use automaton::powers::power_of_two;
 use automaton::refusal::Refusal;
 use hoa_header::header;
+use labels::ALL;
 use missing::Gap;
 use missing::first_gap;
 use parts::Part;
@@ -16,7 +17,6 @@ use parts::next_part;
 use scan::Token;
 use scan::next_token;
 use scan::offset;
-use sets::ALL;
 use sets::lowest;
 use tables::Table;
 use tables::no_states;
@@ -27,10 +27,10 @@ ghost use Rattle.hoa_text.specs.Grammar.{gives, refuses, then};
 ghost use Rattle.hoa_text.specs.Header.{Header};
 ghost use Rattle.hoa_text.specs.Body.{body};
 ghost use Rattle.hoa_text.specs.Reading.{ended, read};
-ghost use Rattle.hoa_text.specs.Offsets.{left};
+ghost use Rattle.hoa_text.specs.Tokens.{left};
 ghost use Rattle.hoa_read.specs.Opened.{Bounded, Opens};
 ghost use Rattle.hoa_read.specs.Missing.{MadeAnswer, WholeAnswer, EndedAnswer};
-ghost use Rattle.hoa_read.specs.Told.{told};
+ghost use Rattle.hoa_read.specs.Told.{told, Tells};
 
 pub enum Answer {
     Read,
@@ -48,7 +48,7 @@ pub const TEXT: usize = 65536;
 
 // The automaton that a text gives, or why it is refused.
 pub fn read(text: &[u8]) -> Reading
-    ensures { λ r. ⌜ r ≡ told (read (now (text .entry))) ⌝ }
+    ensures { λ r. ⌜ Tells (read (now (text .entry))) r ⌝ }
 {
     if text.len() > TEXT {
         return refused(Refusal::Size(TEXT));

@@ -4,8 +4,6 @@ ghost use Prim.Native.Nat.{_^_, _≤_, _<_};
 ghost use Rattle.meaning.specs.BitSet.{has};
 ghost use Rattle.hoa_read.specs.Sets.{Lowest};
 
-pub const ALL: u16 = 65535;
-
 // The lowest number of a set below `count`; `count` where there is none.
 pub fn lowest(set: u16, count: usize) -> usize
     requires { ⌜ count ≤ 16 ⌝ }

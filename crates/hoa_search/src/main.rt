@@ -19,7 +19,8 @@ fn main() {
         return;
     }
     let mut text = [0u8; TEXT];
-    let given = input::from_argument(1, &mut text);
+    let held = input::from_argument(1, &mut text);
+    let given = held.given;
     if !given.accepted {
         return;
     }

@@ -2,9 +2,6 @@
 use mathlib.Core.Bool.{Bool, true, false, _&&_}
 use mathlib.Core.List.{List, [], _∷_}
 use mathlib.Core.Option.{Option, none, some}
-use Prim.Native.Char.{code}
-use Prim.Native.String.{String}
-use Prim.Native.String as Text
 use Prim.Native.Nat.{ℕ, zero, suc}
 use lib.Dec.{eqb}
 
@@ -22,11 +19,6 @@ first zero f = none
 first (suc n) f = option (first n f) (f n) some
 
 -- ---- bytes
-
--- those of a text that is written here in quotes
-abbrev pub bytes : String → List ℕ
-bytes Text.[] = []
-bytes (Text._∷_ c w) = code c ∷ bytes w
 
 -- two texts are the same, byte for byte
 abbrev pub same : List ℕ → List ℕ → Bool

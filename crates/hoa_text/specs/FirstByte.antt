@@ -9,15 +9,15 @@ use native.Mathlib.Omega.{arith}
 use borrow.Author.Tests.{eqb-true}
 use lib.Dec.{eqb}
 use lib.ListN.{length, getD, drop}
-use Rattle.meaning.specs.Tests.{and-left, on-cond}
+use Rattle.meaning.specs.TestLaws.{and-left, on-cond}
 use Rattle.hoa_text.specs.Basics.{begins}
-use Rattle.hoa_text.specs.Tokens.{blank, digit, opensWord, inWord, Token, word, item, number, quoted, sign, unread, Piece, gap, token, cut, stray, run, leadingZero, value, numeral, inQuotes, string, alias, signs, signAt, piece, Stream, placed}
+use Rattle.hoa_text.specs.Tokens.{blank, digit, opensWord, inWord, Token, word, item, number, quoted, sign, unread, Piece, gap, token, cut, stray, run, leadingZero, value, numeral, inQuotes, string, alias, signs, signAt, piece, Stream, placed, left}
 use Rattle.hoa_text.specs.Grammar.{next}
-use Rattle.hoa_text.specs.Offsets.{left, left-over, left-piece}
+use Rattle.hoa_text.specs.Offsets.{left-over, left-piece}
 
 -- a test that no token passes which begins with the byte b
 pub record Excludes (b : ℕ) (p : Token → Bool) : Type 0 where
-  pub words : digit b ≡ false → (w : List ℕ) → p (word w) ≡ false
+  pub words : digit b ≡ false → (w : List ℕ) → p (word (b ∷ w)) ≡ false
   pub items : (w : List ℕ) → p (item w) ≡ false
   pub numbers : digit b ≡ true → (v : ℕ) → p (number v) ≡ false
   pub texts : (w : List ℕ) → p (quoted w) ≡ false
@@ -65,7 +65,7 @@ module _ (b : ℕ) (p : Token → Bool) (n : Excludes b p) where
       let P : Piece → Type 0 = λ x. may p x ≡ false in
       on-cond P (blank b) _ _ (λ e. absurd (true≢false (sym e ∙ h)))
       (λ e. on-cond P (digit b) _ _ (λ d. no-numeral (b ∷ run digit r) d)
-      (λ d. on-cond P (opensWord b) _ _ (λ w. on-cond P (eqb c 58) _ _ (λ e. n .items (b ∷ tail)) (λ e. n .words d (b ∷ tail)))
+      (λ d. on-cond P (opensWord b) _ _ (λ w. on-cond P (eqb c 58) _ _ (λ e. n .items (b ∷ tail)) (λ e. n .words d tail))
       (λ w. on-cond P (eqb b 34) _ _ (λ q. no-text (inQuotes false r)) (λ q. on-cond P (eqb b 64) _ _ (λ a. no-alias tail) (λ a. no-signs signs r)))))
 
 -- past the end of a text stands 0, which begins no token

@@ -7,7 +7,8 @@ use Prim.Native.String.{String}
 use lib.Dec.{eqb}
 use Rattle.automaton.specs.declared.refusal.Refusal.{Refusal}
 use Rattle.automaton.specs.declared.refusal.Refusal.the-variants.{Form}
-use Rattle.hoa_text.specs.Basics.{option, bytes, same}
+use Rattle.automaton.specs.Bytes.{bytes}
+use Rattle.hoa_text.specs.Basics.{option, same}
 use Rattle.hoa_text.specs.Tokens.{Token, word, item, number, quoted, sign, unread, Stream, stands, over, broken}
 
 -- ---- one token

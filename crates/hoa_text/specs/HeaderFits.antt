@@ -9,7 +9,7 @@ use borrow.Author.Tests.{ltb-true, leb-true}
 use lib.Dec.{ltb, leb}
 use lib.ListN.{length, length-append}
 use Rattle.automaton.specs.Value.{printable}
-use Rattle.meaning.specs.Tests.{and-left, and-right, on-cond}
+use Rattle.meaning.specs.TestLaws.{and-left, and-right, on-cond}
 use Rattle.hoa_text.specs.Basics.{option, isSome}
 use Rattle.hoa_text.specs.Tokens.{Token, Stream}
 use Rattle.hoa_text.specs.Grammar.{itemOf, numberOf, quotedOf, isWord, isItem, isSign, next, rest, at, Result, gives, refuses, Parsed, due, Turn, onward}

@@ -7,7 +7,7 @@ use Prim.Native.Nat.{ℕ, zero, suc, _≤_, _<_}
 use native.Mathlib.Omega.{arith}
 use lib.Dec.{ltb, leb}
 use lib.ListN.{length}
-use Rattle.meaning.specs.Tests.{on-cond}
+use Rattle.meaning.specs.TestLaws.{on-cond}
 use Rattle.automaton.specs.Value.{printable}
 use Rattle.hoa_text.specs.Basics.{option, isSome}
 use Rattle.hoa_text.specs.Tokens.{Token, Stream, stands, over, broken}

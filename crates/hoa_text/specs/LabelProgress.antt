@@ -5,7 +5,7 @@ use Prim.Native.Nat.{ℕ, zero, suc, _≤_, _<_}
 use Prim.Native.String.{String}
 use native.Mathlib.Omega.{arith}
 use lib.Dec.{ltb}
-use Rattle.meaning.specs.Tests.{on-cond}
+use Rattle.meaning.specs.TestLaws.{on-cond}
 use Rattle.hoa_text.specs.Tokens.{Stream}
 use Rattle.hoa_text.specs.Grammar.{numberOf, isWord, isSign, next, rest, at, gives, Parsed, then, due, Turn, again, turn, size, repeat}
 use Rattle.hoa_text.specs.Labels.{Formula, conjunction, disjunction, propositionGiven, atom, operation, operands, conjunctions, disjunctions, negated, closed, unary, deepest, label}

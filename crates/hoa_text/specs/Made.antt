@@ -9,9 +9,8 @@ use native.Mathlib.Omega.{arith}
 use lib.ListN.{length, getD, List·getD-eq-default}
 use lib.Pow.{pow-mono}
 use lib.Seq.{ext-getD}
-use Rattle.meaning.specs.Counting.{each-length, each-at}
-use Rattle.automaton.specs.Names.{slot-length, slot-byte}
-use Rattle.automaton.specs.Names.{printable-means}
+use Rattle.meaning.specs.CountingLaws.{each-length, each-at}
+use Rattle.automaton.specs.Names.{slot-length, slot-byte, printable-means}
 use Rattle.automaton.specs.Value.{printable, Valid, destination, markSet, nameLength, nameByte, name}
 use Rattle.automaton.specs.Rows.{rows-length, rows-at}
 use Rattle.hoa_text.specs.Basics.{option, isSome}

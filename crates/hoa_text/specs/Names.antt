@@ -11,7 +11,7 @@ use borrow.Author.Tests.{eq-eqb, eqb-true}
 use lib.Dec.{eqb}
 use lib.ListN.{length, getD, length-append, List·getD-append}
 use lib.Seq.{getD-at}
-use Rattle.meaning.specs.Tests.{and-true, and-left, and-right, or-false}
+use Rattle.meaning.specs.TestLaws.{and-true, and-left, and-right, or-false}
 use Rattle.automaton.specs.declared.Automaton.{Automaton}
 use Rattle.automaton.specs.Names.{slot-length, slot-byte, means-printable}
 use Rattle.automaton.specs.Value.{printable, Valid, name, nameLength, nameByte}

@@ -9,7 +9,7 @@ use borrow.Author.Tests.{leb-true, le-leb, lt-leb}
 use lib.Dec.{leb, eqb}
 use lib.ListN.{length, getD, take, drop}
 use lib.Seq.{slice, slice-cons, slice-empty, take-suc, drop-append-le, length-take-le}
-use Rattle.meaning.specs.Tests.{and-left}
+use Rattle.meaning.specs.TestLaws.{and-left}
 use Rattle.hoa_text.specs.Tokens.{digit, decimalValue, leadingZero, value}
 
 -- ---- digits

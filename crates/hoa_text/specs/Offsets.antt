@@ -9,11 +9,7 @@ use native.Mathlib.Decide.{decLt}
 use native.Mathlib.Omega.{arith}
 use lib.ListN.{length, getD, drop, length-drop, drop-of-length-le, List·getD-eq-default}
 use lib.Seq.{drop-cons, drop-drop}
-use Rattle.hoa_text.specs.Tokens.{blank, Token, Piece, gap, token, cut, stray, piece, Stream, stands, over, broken, placed, lex}
-
--- what follows the offset i
-abbrev pub left : List ℕ → ℕ → Stream
-left s i = lex (drop i s) 0 i
+use Rattle.hoa_text.specs.Tokens.{blank, Token, Piece, gap, token, cut, stray, piece, stands, over, broken, placed, lex, left}
 
 pub left-over : (s : List ℕ) (i : ℕ) → length s ≤ i → left s i ≡ over i
 left-over s i h = ap (λ r. lex r 0 i) (drop-of-length-le s h)

@@ -4,7 +4,7 @@ use mathlib.Core.Bool.{Bool, true, true≢false}
 use mathlib.Core.Option.{Option, none, some}
 use Prim.Native.Nat.{ℕ, suc, _≤_, _<_}
 use native.Mathlib.Omega.{arith}
-use Rattle.meaning.specs.Tests.{on-cond}
+use Rattle.meaning.specs.TestLaws.{on-cond}
 use Rattle.automaton.specs.declared.refusal.Refusal.the-variants.{Form}
 use Rattle.hoa_text.specs.Basics.{option}
 use Rattle.hoa_text.specs.Tokens.{Token, Stream, stands, over, broken}

@@ -10,9 +10,9 @@ use borrow.Author.Tests.{ne-eqb}
 use lib.Dec.{eqb}
 use lib.ListN.{length, getD, drop}
 use lib.Seq.{slice, slice-empty, length-slice, drop-cons, drop-length}
-use Rattle.hoa_text.specs.Tokens.{quoted, inQuotes, string, piece, stands, broken}
+use Rattle.hoa_text.specs.Tokens.{quoted, inQuotes, string, piece, stands, broken, left}
 use Rattle.hoa_text.specs.Numbers.{slice-more}
-use Rattle.hoa_text.specs.Offsets.{left, inside, pieceAt, left-token, left-cut}
+use Rattle.hoa_text.specs.Offsets.{inside, pieceAt, left-token, left-cut}
 
 -- From i on, behind the opening quote, up to a: no quote ended the text. The byte at a is carried by a backslash, or not.
 pub record InQuotes (s : List ℕ) (i a : ℕ) (carried : Bool) : Type 0 where

@@ -10,7 +10,8 @@ use lib.Dec.{ltb}
 use lib.ListN.{length, getD}
 use lib.Pow.{pow-mono}
 use Rattle.meaning.specs.BitSet.{has}
-use Rattle.meaning.specs.Counting.{each, each-length, each-at}
+use Rattle.meaning.specs.Counting.{each}
+use Rattle.meaning.specs.CountingLaws.{each-length, each-at}
 use Rattle.automaton.specs.declared.Automaton.{Automaton}
 use Rattle.automaton.specs.declared.refusal.Refusal.the-variants.{Size, Body, NoEdge}
 use Rattle.automaton.specs.Equality.{Same, equal-values}

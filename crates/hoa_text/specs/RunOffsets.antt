@@ -10,9 +10,9 @@ use borrow.Author.Tests.{ne-eqb, eqb-true, leb-true, le-leb, lt-leb}
 use lib.Dec.{leb, eqb}
 use lib.ListN.{length, getD, drop, drop-of-length-le}
 use lib.Seq.{slice, slice-cons, slice-empty, length-slice, drop-cons, getD-drop}
-use Rattle.meaning.specs.Tests.{and-left, or-cases}
-use Rattle.hoa_text.specs.Tokens.{between, blank, digit, opensWord, inWord, word, item, unread, token, run, numeral, identifier, alias, piece, stands, broken}
-use Rattle.hoa_text.specs.Offsets.{left, inside, pieceAt, left-token, left-stray}
+use Rattle.meaning.specs.TestLaws.{and-left, or-cases}
+use Rattle.hoa_text.specs.Tokens.{between, blank, digit, opensWord, inWord, word, item, unread, token, run, numeral, identifier, alias, piece, stands, broken, left}
+use Rattle.hoa_text.specs.Offsets.{inside, pieceAt, left-token, left-stray}
 use Rattle.hoa_text.specs.Numbers.{digit-from}
 
 -- ---- runs

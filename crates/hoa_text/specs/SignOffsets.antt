@@ -10,10 +10,11 @@ use borrow.Author.Tests.{eq-eqb, ne-eqb, eqb-true}
 use lib.Dec.{eqb}
 use lib.ListN.{length, getD, drop, length-append, length-drop, drop-of-length-le}
 use lib.Seq.{drop-cons}
-use Rattle.meaning.specs.Tests.{and-left, and-right, or-false}
-use Rattle.hoa_text.specs.Basics.{bytes, begins}
-use Rattle.hoa_text.specs.Tokens.{blank, digit, opensWord, sign, token, stray, signs, signAt, piece, stands, broken}
-use Rattle.hoa_text.specs.Offsets.{left, inside, left-token, left-stray}
+use Rattle.meaning.specs.TestLaws.{and-left, and-right, or-false}
+use Rattle.automaton.specs.Bytes.{bytes}
+use Rattle.hoa_text.specs.Basics.{begins}
+use Rattle.hoa_text.specs.Tokens.{blank, digit, opensWord, sign, token, stray, signs, signAt, piece, stands, broken, left}
+use Rattle.hoa_text.specs.Offsets.{inside, left-token, left-stray}
 
 -- ---- signs
 

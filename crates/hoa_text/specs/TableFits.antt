@@ -8,7 +8,7 @@ use lib.Bits.{bitOr, or-lt}
 use lib.Dec.{ltb, eqb}
 use lib.ListN.{length}
 use lib.Pow.{pow-lt, pow-pos}
-use Rattle.meaning.specs.Tests.{and-left, and-right, on-cond}
+use Rattle.meaning.specs.TestLaws.{and-left, and-right, on-cond}
 use Rattle.automaton.specs.declared.refusal.Refusal.{Refusal}
 use Rattle.automaton.specs.declared.refusal.Refusal.the-variants.{Form, Undeclared}
 use Rattle.hoa_text.specs.Basics.{option}

@@ -6,8 +6,9 @@ use mathlib.Core.Option.{Option, none, some, Option·map}
 use Prim.Native.Char.{Char, code}
 use Prim.Native.Nat.{ℕ, zero, suc, _+_, _-_, _*_, min}
 use lib.Dec.{leb, eqb}
-use lib.ListN.{length, getD}
-use Rattle.hoa_text.specs.Basics.{bytes, begins}
+use lib.ListN.{length, getD, drop}
+use Rattle.automaton.specs.Bytes.{bytes}
+use Rattle.hoa_text.specs.Basics.{begins}
 
 -- ---- bytes
 
@@ -155,3 +156,7 @@ lex (b ∷ r) zero o =
 
 abbrev pub tokens : List ℕ → Stream
 tokens s = lex s 0 0
+
+-- those from the offset i on: what a reader has left that stands there
+abbrev pub left : List ℕ → ℕ → Stream
+left s i = lex (drop i s) 0 i

@@ -8,7 +8,7 @@ use Rattle.meaning.specs.BitSet.{has}
 use Rattle.meaning.specs.Counting.{each}
 use Rattle.automaton.specs.declared.Automaton.{Automaton}
 use Rattle.automaton.specs.Value.{letters, destination, markSet, name}
-use Rattle.hoa_text.specs.Basics.{bytes}
+use Rattle.automaton.specs.Bytes.{bytes}
 
 -- a number below 100
 abbrev pub decimal : ℕ → List ℕ

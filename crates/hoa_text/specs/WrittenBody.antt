@@ -9,12 +9,14 @@ use native.Mathlib.Omega.{arith}
 use borrow.Author.Tests.{lt-ltb, le-ltb, eq-eqb, ne-eqb}
 use lib.Dec.{ltb, eqb}
 use lib.ListN.{length}
-use Rattle.meaning.specs.Counting.{each, each-length}
+use Rattle.meaning.specs.Counting.{each}
+use Rattle.meaning.specs.CountingLaws.{each-length}
 use Rattle.automaton.specs.declared.Automaton.{Automaton}
 use Rattle.automaton.specs.declared.refusal.Refusal.the-variants.{Undeclared, Body, SecondEdge}
 use Rattle.automaton.specs.Value.{Valid, destination, markSet, name}
 use Rattle.automaton.specs.Value as Value
-use Rattle.hoa_text.specs.Basics.{option, isSome, bytes}
+use Rattle.automaton.specs.Bytes.{bytes}
+use Rattle.hoa_text.specs.Basics.{option, isSome}
 use Rattle.hoa_text.specs.Tokens.{over, lex}
 use Rattle.hoa_text.specs.Grammar.{quotedOf, isSign, next, rest, at, gives, refuses, then, again, repeat, onward}
 use Rattle.hoa_text.specs.Labels.{Formula, holds, label}

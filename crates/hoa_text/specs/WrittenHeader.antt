@@ -1,7 +1,7 @@
 -- The header that is written of an automaton is read back.
 use mathlib.Core.Path.{_≡_, refl, sym, ap, _∙_, subst}
-use mathlib.Core.Bool.{true, false, cond}
-use mathlib.Core.List.{List, [], _∷_, _++_, append-assoc}
+use mathlib.Core.Bool.{Bool, true, false, cond}
+use mathlib.Core.List.{List, [], _∷_, _++_, append-assoc, append-nil}
 use mathlib.Core.Option.{Option, none, some}
 use Prim.Native.Nat.{ℕ, zero, suc, _+_, _≤_, _<_}
 use native.Mathlib.Decide.{ℕ-discrete}
@@ -9,20 +9,23 @@ use native.Mathlib.Omega.{arith}
 use borrow.Author.Tests.{lt-ltb, le-leb, eq-eqb, ne-eqb}
 use lib.Dec.{ltb, leb}
 use lib.ListN.{length}
-use Rattle.meaning.specs.Tests.{and-true}
-use Rattle.meaning.specs.Counting.{each, each-length, each-at}
+use Rattle.meaning.specs.TestLaws.{and-true}
+use Rattle.meaning.specs.Counting.{each}
+use Rattle.meaning.specs.CountingLaws.{each-length, each-at}
 use Rattle.automaton.specs.declared.Automaton.{Automaton}
-use Rattle.automaton.specs.declared.refusal.Refusal.the-variants.{Size, Undeclared}
+use Rattle.automaton.specs.declared.refusal.Refusal.the-variants.{Size, Item, Undeclared}
 use Rattle.automaton.specs.Value.{Valid, name}
-use Rattle.hoa_text.specs.Basics.{option, bytes}
-use Rattle.hoa_text.specs.Tokens.{lex}
-use Rattle.hoa_text.specs.Grammar.{at, Result, gives, refuses, then, again, done, repeat, onward}
-use Rattle.hoa_text.specs.Header.{Items, Header, among, statesGiven, startGiven, nameGiven, naming, namesRead, namesGiven, noItems, opened, itemRead, header}
-use Rattle.hoa_text.specs.Written.{decimal, line, hoaLine, statesLine, startLine, quotedName, namesLine, namesPart, conditionOf, acceptanceLine, bodyLine}
+use Rattle.automaton.specs.Bytes.{bytes}
+use Rattle.hoa_text.specs.Basics.{option}
+use Rattle.hoa_text.specs.Tokens.{lex, Token}
+use Rattle.hoa_text.specs.Grammar.{at, Result, gives, refuses, then, again, done, repeat, onward, isSign, isNumber}
+use Rattle.hoa_text.specs.Header.{Items, Header, among, statesGiven, startGiven, nameGiven, naming, namesRead, namesGiven, noItems, opened, itemRead, header, inf, infs, condition, accepting, setsRead, setsGiven}
+use Rattle.hoa_text.specs.Written.{decimal, line, hoaLine, statesLine, startLine, quotedName, namesLine, namesPart, conditionOf, acceptanceLine, bodyLine, infOf}
 use Rattle.hoa_text.specs.Repetition.{repeat-again, repeat-done}
 use Rattle.hoa_text.specs.HeaderProgress.{item-shrinks}
 use Rattle.hoa_text.specs.Names.{not-among, name-length, name-printable}
-use Rattle.hoa_text.specs.WrittenTokens.{SomeOffset, Reads, NoDigit, first-byte, due-number, quoted-read}
+use Rattle.hoa_text.specs.WrittenTokens.{SomeOffset, Reads, NoDigit, first-byte, number-read, due-number, quoted-read}
+use Rattle.hoa_text.specs.WrittenLabels.{one-more-separated}
 use Rattle.hoa_text.specs.WrittenBody.{headerOf}
 
 abbrev after : Option ℕ → Option (ℕ × ℕ) → Option (List (List ℕ)) → Option ℕ → Items
@@ -167,15 +170,72 @@ module _ (a : Automaton) (v : Valid a) where
 abbrev acceptance : ℕ → List ℕ
 acceptance m = line (bytes "Acceptance: " ++ (decimal m ++ (bytes " " ++ conditionOf m)))
 
+-- one set of the condition
+inf-read : (m i : ℕ) → i < 100 → (ps : List (Token → Bool)) (s : List ℕ) → Reads (accepting m (inf i ps)) (infOf i ++ s) (accepting m ps) s
+inf-read m i h ps s o =
+    let e : infOf i ++ s ≡ bytes "Inf(" ++ (decimal i ++ (41 ∷ s)) = simp append-assoc in
+    let b = o + 1 + 1 + 1 + 1 in
+    let k = number-read i h (41 ∷ s) (first-byte 41 s refl) b in
+    record {
+      offset = k .offset + 1;
+      is =
+          ap (λ u. accepting m (inf i ps) (lex u 0 o)) e
+          ∙ ap (accepting m (isNumber i ∷ isSign ")" ∷ ps)) (k .is)
+          ∙ ap (λ t. cond t (accepting m ps (lex s 0 (k .offset + 1))) (refuses (Item b))) (eq-eqb i i refl);
+    }
+
+-- the tests of one set more stand behind the others
+infs-more : (n i : ℕ) (ps : List (Token → Bool)) → infs (suc n) i ++ ps ≡ infs n i ++ (isSign "&" ∷ inf (i + n) ps)
+infs-more zero i ps = let e : i ≡ i + 0 = omega arith in ap (λ j. isSign "&" ∷ inf j ps) e
+infs-more (suc n) i ps =
+    let e : i + 1 + n ≡ i + suc n = omega arith in
+    ap (λ qs. isSign "&" ∷ inf i qs) (infs-more n (i + 1) ps ∙ ap (λ j. infs n (i + 1) ++ (isSign "&" ∷ inf j ps)) e)
+
+-- the sets up to n, by the number of sets
+infs-read : (m n : ℕ) → n < 100 → (ps : List (Token → Bool)) (s : List ℕ) → Reads (accepting m (condition (suc n) ++ ps)) (conditionOf (suc n) ++ s) (accepting m ps) s
+infs-read m zero h ps s o =
+    let k = inf-read m 0 h ps s o in
+    record { offset = k .offset; is = ap (λ u. accepting m (inf 0 ps) (lex (u ++ s) 0 o)) (append-nil (infOf 0)) ∙ k .is }
+infs-read m (suc n) h ps s o =
+    let e : 1 + n ≡ suc n = omega arith in
+    let qs : List (Token → Bool) = isSign "&" ∷ inf (suc n) ps in
+    let u : List ℕ = bytes "&" ++ (infOf (suc n) ++ s) in
+    let ih = infs-read m n (omega arith) qs u o in
+    let k = inf-read m (suc n) h ps s (ih .offset + 1) in
+    record {
+      offset = k .offset;
+      is =
+          ap (λ qs. accepting m (inf 0 qs) (lex (conditionOf (suc (suc n)) ++ s) 0 o)) (infs-more n 1 ps ∙ ap (λ j. infs n 1 ++ (isSign "&" ∷ inf j ps)) e)
+          ∙ ap (λ v. accepting m (condition (suc n) ++ qs) (lex v 0 o)) (one-more-separated "&" infOf n s)
+          ∙ ih .is ∙ k .is;
+    }
+
+-- "Acceptance is `0 t`, or the count and Inf(0)&Inf(1)&..", in front of an item name or the body
+condition-read : (m n : ℕ) → n ≤ 100 → (r : List ℕ) → Reads (accepting m (condition n)) (conditionOf n ++ (10 ∷ (bodyLine ++ r))) (λ u. gives (m, u)) (bodyLine ++ r)
+condition-read m zero h r o = record { offset = o + 1 + 1; is = refl }
+condition-read m (suc n) h r o =
+    let k = infs-read m n (omega arith) [] (10 ∷ (bodyLine ++ r)) o in
+    record { offset = k .offset + 1; is = ap (λ ps. accepting m ps (lex (conditionOf (suc n) ++ (10 ∷ (bodyLine ++ r))) 0 o)) (sym (append-nil (condition (suc n)))) ∙ k .is }
+
 acceptance-read : (m : ℕ) → m ≤ 4 → (w : Option ℕ) (x : Option (ℕ × ℕ)) (y : Option (List (List ℕ))) (r : List ℕ)
     → Reads (itemRead (after w x y none)) (acceptance m ++ (bodyLine ++ r)) (λ u. gives (again (after w x y (some m)) u)) (bodyLine ++ r)
 unfolding itemRead
-acceptance-read zero h w x y r o = record { offset = _; is = refl }
-acceptance-read (suc zero) h w x y r o = record { offset = _; is = refl }
-acceptance-read (suc (suc zero)) h w x y r o = record { offset = _; is = refl }
-acceptance-read (suc (suc (suc zero))) h w x y r o = record { offset = _; is = refl }
-acceptance-read (suc (suc (suc (suc zero)))) h w x y r o = record { offset = _; is = refl }
-acceptance-read (suc (suc (suc (suc (suc m))))) h w x y r o = absurd (omega arith)
+acceptance-read m h w x y r o =
+    let i = after w x y none in
+    let s = conditionOf m ++ (10 ∷ (bodyLine ++ r)) in
+    let e : acceptance m ++ (bodyLine ++ r) ≡ bytes "Acceptance: " ++ (decimal m ++ (32 ∷ s)) = simp append-assoc in
+    let b = o + 1 + 1 + 1 + 1 + 1 + 1 + 1 + 1 + 1 + 1 + 1 + 1 in
+    let o₁ = at (lex (decimal m ++ (32 ∷ s)) 0 b) in
+    let k = due-number m (omega arith) (32 ∷ s) (first-byte 32 s refl) b in
+    let g = condition-read m m (omega arith) r (k .offset + 1) in
+    record {
+      offset = g .offset;
+      is =
+          ap (λ u. itemRead i (lex u 0 o)) e
+          ∙ ap (λ t. onward (then t (setsGiven i o₁))) (k .is)
+          ∙ ap (λ t. onward (cond t (then (accepting m (condition m) (lex s 0 (k .offset + 1))) (setsRead i)) (refuses (Size o₁)))) (le-leb m 4 h)
+          ∙ ap (λ t. onward (then t (setsRead i))) (g .is);
+    }
 
 -- ---- the header
 

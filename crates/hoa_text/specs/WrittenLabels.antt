@@ -10,10 +10,12 @@ use native.Mathlib.Omega.{arith}
 use borrow.Author.Tests.{lt-ltb, eq-eqb, ne-eqb, not-true}
 use lib.Dec.{eqb}
 use lib.ListN.{length}
-use Rattle.meaning.specs.BitSet.{has, has-same}
-use Rattle.meaning.specs.Tests.{and-true, and-left, and-right}
-use Rattle.meaning.specs.Counting.{each, each-length}
-use Rattle.hoa_text.specs.Basics.{bytes}
+use Rattle.meaning.specs.BitSet.{has}
+use Rattle.meaning.specs.BitSetLaws.{has-same}
+use Rattle.meaning.specs.TestLaws.{and-true, and-left, and-right}
+use Rattle.meaning.specs.Counting.{each}
+use Rattle.meaning.specs.CountingLaws.{each-length}
+use Rattle.automaton.specs.Bytes.{bytes}
 use Rattle.hoa_text.specs.Tokens.{number, Stream, stands, lex}
 use Rattle.hoa_text.specs.Grammar.{gives, Parsed, then, again, repeat}
 use Rattle.hoa_text.specs.Labels.{Formula, proposition, top, negation, conjunction, disjunction, holds, operation, conjunctions, unary, negated, deepest, label}
@@ -31,6 +33,14 @@ followed-more w (v ∷ us) u = ap (λ x. bytes w ++ (v ++ x)) (followed-more w u
 pub separated-more : (w : String) (us : List (List ℕ)) (u : List ℕ) → 0 < length us → separated w (us ++ (u ∷ [])) ≡ separated w us ++ (bytes w ++ u)
 separated-more w [] u h = absurd (not-suc-le-zero h)
 separated-more w (v ∷ us) u h = ap (λ x. v ++ x) (followed-more w us u) ∙ sym (append-assoc v (followed w us) (bytes w ++ u))
+
+-- f 0, f 1, .., with one more behind them
+pub one-more-separated : (w : String) (f : ℕ → List ℕ) (j : ℕ) (s : List ℕ)
+    → separated w (each (suc (suc j)) (λ i. f i ∷ [])) ++ s ≡ separated w (each (suc j) (λ i. f i ∷ [])) ++ (bytes w ++ (f (suc j) ++ s))
+one-more-separated w f j s =
+    let us = each (suc j) (λ i. f i ∷ []) in
+    ap (λ u. u ++ s) (separated-more w us (f (suc j)) (omega (arith, each-length (suc j) f)))
+    ∙ append-assoc (separated w us) (bytes w ++ f (suc j)) s ∙ ap (λ u. separated w us ++ u) (append-assoc (bytes w) (f (suc j)) s)
 
 -- ---- the formula of a letter
 
@@ -109,13 +119,6 @@ module _ (d k l : ℕ) (small : k ≤ 4) where
             is = ap (λ u. then (unary (suc d) k u) negated) (n .is) ∙ ap (λ x. then x negated) (proposition-read d k i h (o + 1) (lex s 0 (n .offset)));
           }
 
-  -- the literals up to j, and what may follow them
-  label-more : (j : ℕ) (s : List ℕ) → labelOf (suc (suc j)) l ++ s ≡ labelOf (suc j) l ++ (38 ∷ (literalOf l (suc j) ++ s))
-  label-more j s =
-      let us = each (suc j) (λ i. literalOf l i ∷ []) in
-      ap (λ u. u ++ s) (separated-more "&" us (literalOf l (suc j)) (omega (arith, each-length (suc j) (literalOf l))))
-      ∙ append-assoc (separated "&" us) (38 ∷ literalOf l (suc j)) s
-
   formula-read : (j : ℕ) → j < k → (s : List ℕ) → NoDigit s
       → Reads (conjunctions operand) (labelOf (suc j) l ++ s) (repeat (operation "&" conjunction operand) (formulaOf (suc j) l)) s
   formula-read zero h s e o =
@@ -130,7 +133,7 @@ module _ (d k l : ℕ) (small : k ≤ 4) where
       let n = literal-read (suc j) h s e (ih .offset + 1) in
       record {
         offset = n .offset;
-        is = ap (λ u. conjunctions operand (lex u 0 o)) (label-more j s) ∙ ih .is
+        is = ap (λ u. conjunctions operand (lex u 0 o)) (one-more-separated "&" (literalOf l) j s) ∙ ih .is
             ∙ repeat-again (operation "&" conjunction operand) (and-shrinks (suc (suc d)) k) (formulaOf (suc j) l) (lex r 0 (ih .offset))
             (ap (λ x. then x (λ g u. gives (again (conjunction (formulaOf (suc j) l) g) u))) (n .is));
       }

@@ -12,9 +12,10 @@ use lib.Bits.{bitOr, or-shifted-r}
 use lib.Dec.{eqb}
 use lib.ListN.{length, length-append}
 use lib.Pow.{pow-pos}
-use Rattle.meaning.specs.BitSet.{low, has, digit as bit}
+use Rattle.meaning.specs.BitSet.{has, digit as bit}
+use Rattle.meaning.specs.BitSetLaws.{low}
 use Rattle.automaton.specs.declared.refusal.Refusal.the-variants.{Undeclared}
-use Rattle.hoa_text.specs.Basics.{bytes}
+use Rattle.automaton.specs.Bytes.{bytes}
 use Rattle.hoa_text.specs.Tokens.{lex}
 use Rattle.hoa_text.specs.Grammar.{isSign, next, rest, gives, refuses}
 use Rattle.hoa_text.specs.Body.{marks, marked}

@@ -10,7 +10,7 @@ use borrow.Author.Tests.{lt-ltb, le-ltb, le-leb, ne-eqb}
 use lib.ListN.{length}
 use Rattle.automaton.specs.Names.{printable-means}
 use Rattle.automaton.specs.Value.{printable}
-use Rattle.meaning.specs.Tests.{and-true, and-left, and-right}
+use Rattle.meaning.specs.TestLaws.{and-true, and-left, and-right}
 use Rattle.hoa_text.specs.Tokens.{digit, number, quoted, value, token, piece, inQuotes, Stream, stands, placed, lex}
 use Rattle.hoa_text.specs.Grammar.{numberOf, gives, due}
 use Rattle.hoa_text.specs.Header.{allBytes}

@@ -42,13 +42,13 @@ module _ (a : Automaton) where
 
 module _ (a : Automaton) (out : List ℕ) where
   pub short-answer : length out < 8192 → Answered a out out (Refused (Short 8192 (length out)))
-  short-answer h = record { short = λ g. (refl, refl); outside = λ g. absurd (omega arith); written = λ g. absurd (omega arith) }
+  short-answer h = record { short = λ g. (refl, refl, refl); outside = λ g. absurd (omega arith); written = λ g. absurd (omega arith) }
 
   module _ (h : 8192 ≤ length out) where
     pub outside-answer : {r : Bool} → (r ≡ true) ↔ Valid a → not r ≡ true → Answered a out out (Refused Outside)
     outside-answer {r} e t = record {
       short = λ g. absurd (omega arith);
-      outside = λ _ _. (refl, refl);
+      outside = λ _ _. (refl, refl, refl);
       written = λ _ v. absurd (true≢false (sym (e .1 v) ∙ not-true r t));
     }
 
@@ -58,5 +58,5 @@ module _ (a : Automaton) (out : List ℕ) where
         record {
           short = λ g. absurd (omega arith);
           outside = λ _ g. absurd (g v);
-          written = λ _ _. (ap (λ k. Text k) e, w .is ∙ ap (λ k. text a ++ drop k out) e);
+          written = λ _ _. (ap (λ k. Text k) e, w .is ∙ ap (λ k. text a ++ drop k out) e, refl);
         }

@@ -22,11 +22,8 @@ use Rattle.hoa_write.specs.Pieces.{byteIf, infPiece, literalPiece, markP
 -- ---- a byte where a test holds
 
 module _ {test : Bool} (b at : ℕ) where
-  pub byte-room : (n : ℕ) → test ≡ true → at + length (byteIf test b) ≤ n → at < n
-  byte-room n e h = omega (arith, ap (λ t. length (byteIf t b)) e)
-
-  pub byte-there : {d f : List ℕ} {r : ℕ} → test ≡ true → Wrote d at (b ∷ []) f r → Wrote d at (byteIf test b) f r
-  byte-there {d} {f} {r} e p = subst (λ t. Wrote d at (byteIf t b) f r) (sym e) p
+  pub byte-there : {d f : List ℕ} {r : ℕ} → test ≡ true → WroteIfRoom d at (b ∷ []) f r → at + length (byteIf test b) ≤ length d → Wrote d at (byteIf test b) f r
+  byte-there {d} {f} {r} e p h = subst (λ t. Wrote d at (byteIf t b) f r) (sym e) (p .roomy (omega (arith, ap (λ t. length (byteIf t b)) e)))
 
   pub byte-none : {d : List ℕ} → test ≡ false → at + length (byteIf test b) ≤ length d → Wrote d at (byteIf test b) d at
   byte-none {d} e h = subst (λ t. Wrote d at (byteIf t b) d at) (sym e) (wrote-none d at (omega arith))

@@ -6,7 +6,7 @@ use mathlib.Core.List.{List, [], _∷_, _++_}
 use Prim.Native.Nat.{ℕ, _+_, _-_, _*_, _<_}
 use native.Mathlib.Omega.{arith}
 use borrow.Author.Tests.{eq-eqb, ne-eqb}
-use lib.ListN.{length, take, drop, length-append}
+use lib.ListN.{take, drop}
 use Rattle.automaton.specs.declared.Automaton.{Automaton}
 use Rattle.automaton.specs.Value.{Valid, letters, markSet, nameLength}
 use Rattle.automaton.specs.Powers.{power-le, letters-le}
@@ -18,9 +18,6 @@ pub quoted-is : (a : Automaton) (i : ℕ) → 32 ∷ 34 ∷ (take (i * 16 + name
 quoted-is a i =
     let e : i * 16 + nameLength a i - i * 16 ≡ nameLength a i = omega arith in
     ap (λ n. 32 ∷ 34 ∷ (take n (drop (i * 16) (a .names)) ++ (34 ∷ []))) e
-
-pub quoted-length : (a : Automaton) (i : ℕ) → length (quotedName a i) ≡ length (take (i * 16 + nameLength a i - i * 16) (drop (i * 16) (a .names))) + 3
-quoted-length a i = omega (arith, ap length (quoted-is a i), length-append (take (i * 16 + nameLength a i - i * 16) (drop (i * 16) (a .names))) (34 ∷ []))
 
 pub names-none : (a : Automaton) (d : List ℕ) → a .propositions ≡ 0 → Wrote d 0 (namesPart a) d 0
 names-none a d e = subst (λ b. Wrote d 0 (cond b [] (namesLine a)) d 0) (sym (eq-eqb (a .propositions) 0 e)) (wrote-none d 0 (omega arith))

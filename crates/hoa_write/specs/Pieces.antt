@@ -9,8 +9,10 @@ use borrow.Author.Tests.{lt-ltb}
 use lib.Dec.{ltb}
 use lib.ListN.{length, length-append}
 use lib.Pow.{pow-pos}
-use Rattle.meaning.specs.BitSet.{has, digit, low}
-use Rattle.meaning.specs.Counting.{each, each-length}
+use Rattle.meaning.specs.BitSet.{has, digit}
+use Rattle.meaning.specs.BitSetLaws.{low}
+use Rattle.meaning.specs.Counting.{each}
+use Rattle.meaning.specs.CountingLaws.{each-length}
 use Rattle.hoa_text.specs.Written.{decimal, separated, infOf, conditionOf, literalOf, labelOf, members}
 use Rattle.hoa_text.specs.WrittenLabels.{separated-more}
 

@@ -1,10 +1,11 @@
 // The body's lines: a state's, and its edges', with label, destination and marks.
 use crate::lines;
-use crate::pieces::byte;
-use crate::pieces::byte_if;
-use crate::pieces::number;
+use crate::parts::byte_if;
+use crate::parts::number;
 use automaton::Automaton;
 use automaton::powers::power_of_two;
+use pieces::byte;
+use pieces::word;
 ghost use mathlib.Core.Path.{_≡_};
 ghost use mathlib.Core.List.{_++_};
 ghost use Prim.Native.Nat.{_+_, _%_, _^_, _≤_, _<_};
@@ -13,7 +14,7 @@ ghost use Rattle.meaning.specs.BitSet.{has};
 ghost use Rattle.meaning.specs.Counting.{each};
 ghost use Rattle.automaton.specs.Value.{Valid, letters};
 ghost use Rattle.decimal.specs.Wrote.{Wrote};
-ghost use Rattle.hoa_text.specs.Basics.{bytes};
+ghost use Rattle.automaton.specs.Bytes.{bytes};
 ghost use Rattle.hoa_text.specs.Written.{stateLines, edgeLine, labelOf, marksOf};
 ghost use Rattle.hoa_write.specs.Pieces.{literalPiece, markPiece};
 
@@ -69,7 +70,7 @@ fn label(k: usize, l: usize, out: &mut [u8], at: usize) -> usize
     ensures { λ r. ⌜ Wrote (now (out .entry)) at (labelOf k l) (now (out .exit)) r ⌝ }
 {
     if k == 0 {
-        return byte(b't', out, at);
+        return word(&words::TRUE, out, at);
     }
     literals(k, l, out, at)
 }

@@ -12,7 +12,7 @@ ghost use Rattle.hoa_write.specs.Answer.{Answered};
 
 mod edges;
 mod lines;
-pub mod pieces;
+mod parts;
 
 pub enum Written {
     // The number of bytes.

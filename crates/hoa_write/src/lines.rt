@@ -1,10 +1,10 @@
 // The header's lines and those of the body that have one word or one number. Each is written at the start of what is lent: the
 // part of the buffer that begins after the bytes already written.
-use crate::pieces::byte;
-use crate::pieces::byte_if;
-use crate::pieces::number;
-use crate::pieces::word;
+use crate::parts::byte_if;
+use crate::parts::number;
 use automaton::Automaton;
+use pieces::byte;
+use pieces::word;
 ghost use mathlib.Core.List.{_∷_, _++_};
 ghost use Prim.Native.Nat.{_+_, _≤_, _<_};
 ghost use lib.ListN.{length};
@@ -114,7 +114,7 @@ fn condition(sets: usize, out: &mut [u8], at: usize) -> usize
     ensures { λ r. ⌜ Wrote (now (out .entry)) at (conditionOf sets) (now (out .exit)) r ⌝ }
 {
     if sets == 0 {
-        return byte(b't', out, at);
+        return word(&words::TRUE, out, at);
     }
     infs(sets, out, at)
 }

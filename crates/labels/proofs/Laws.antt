@@ -14,12 +14,13 @@ use denote.Enum.Declared.{tagOf, declared}
 use types.Run.{OneOf, miss}
 use Rattle.automaton.specs.declared.refusal.Refusal.{Refusal}
 use Rattle.automaton.specs.declared.refusal.Refusal.the-variants.{Form, Size, Undeclared}
-use Rattle.hoa_text.specs.Basics.{isSome, bytes, same}
-use Rattle.hoa_text.specs.Tokens.{blank, digit, sign, token, piece, Stream, stands}
+use Rattle.automaton.specs.Bytes.{bytes}
+use Rattle.hoa_text.specs.Basics.{isSome, same}
+use Rattle.hoa_text.specs.Tokens.{blank, digit, sign, token, piece, Stream, stands, left}
 use Rattle.hoa_text.specs.Grammar.{numberOf, isWord, next, at, gives, refuses, Parsed, then, again, repeat}
 use Rattle.hoa_text.specs.Labels.{Formula, propositionGiven, proposition, top, bottom, negation, atom, operation, operands, disjunctions, negated, closed, unary}
 use Rattle.hoa_text.specs.Repetition.{Shrinks, repeat-again, repeat-done, repeat-refuses}
-use Rattle.hoa_text.specs.Offsets.{left, inside}
+use Rattle.hoa_text.specs.Offsets.{inside}
 use Rattle.hoa_text.specs.RunOffsets.{digit-blank}
 use Rattle.hoa_text.specs.SignOffsets.{left-mark}
 use Rattle.hoa_text.specs.FirstByte.{excluded}
@@ -32,12 +33,13 @@ use Rattle.scan.proofs.Due.{other-than-number, number-missing, number-due}
 use Rattle.labels.specs.declared.LabelRead.{LabelRead}
 use Rattle.labels.specs.declared.LabelRead.the-variants.{Letters, Refused}
 use Rattle.labels.proofs.LetterSets.{all-letters, no-letters, letters-not}
-use Rattle.labels.specs.Answers.{Satisfy, Read, Answers, Closes, Constant, Spelled}
+use Rattle.labels.specs.Answers.{Satisfy, Read, Answers}
+use Rattle.labels.specs.Parts.{Closes, Constant, Spelled}
 
 -- ---- one sign
 
 -- the first byte is that sign
-sign-first : (b : ℕ) → ((r : List ℕ) → piece b r ≡ token (sign (b ∷ [])) 0) → b ≢ 0 → (s : List ℕ) (i o : ℕ) → Skipped s i o → getD s o 0 ≡ b → Behind s i b (o + 1)
+pub sign-first : (b : ℕ) → ((r : List ℕ) → piece b r ≡ token (sign (b ∷ [])) 0) → b ≢ 0 → (s : List ℕ) (i o : ℕ) → Skipped s i o → getD s o 0 ≡ b → Behind s i b (o + 1)
 sign-first b is-sign some s i o h e =
     let l : o < length s = inside s o (λ z. some (sym e ∙ z)) in
     let m : o ≡ o + 1 - 1 = omega arith in
@@ -49,7 +51,7 @@ sign-first b is-sign some s i o h e =
     }
 
 -- or another
-sign-absent : (b : ℕ) (s : List ℕ) (i o : ℕ) → Skipped s i o → getD s o 0 ≢ b → Behind s i b i
+pub sign-absent : (b : ℕ) (s : List ℕ) (i o : ℕ) → Skipped s i o → getD s o 0 ≢ b → Behind s i b i
 sign-absent b s i o h n = record {
   from = omega arith;
   absent = λ q.
@@ -183,7 +185,7 @@ module _ (k : ℕ) (s : List ℕ) (i n : ℕ) where
 -- ---- the first byte, at o, chooses
 
 module _ (k : ℕ) (s : List ℕ) (i o d : ℕ) (h : Skipped s i o) where
-  later : o + 1 ≢ i
+  pub later : o + 1 ≢ i
   later q = absurd (omega (arith, h .from))
 
   size-at : (n : ℕ) (x : Parsed Formula) → n ≡ o → x ≡ refuses (Size n) → x ≡ refuses (Size o)
@@ -220,7 +222,7 @@ module _ (k : ℕ) (s : List ℕ) (i o d : ℕ) (h : Skipped s i o) where
     open-read z = opened-read k s i (o + 1) i no-not refl d stands-open later z
 
   module _ (n : getD s o 0 ≢ 33) (m : getD s o 0 ≢ 40) where
-    is-atom : unary d k (left s i) ≡ atom k (left s o)
+    pub is-atom : unary d k (left s i) ≡ atom k (left s o)
     is-atom = atom-first k s i i i (sign-absent 33 s i o h n) refl d (sign-absent 40 s i o h m) refl ∙ ap (atom k) (h .is)
 
     pub atom-read : (r : LabelRead) → Answers s o (atom k (left s o)) r → Answers s i (unary d k (left s i)) r
@@ -285,7 +287,7 @@ digit-no-word s i d w =
     })
 
 -- no number stands where no digit does
-no-digit-no-number : (s : List ℕ) (i : ℕ) → blank (getD s i 0) ≡ false → digit (getD s i 0) ≡ false → next (λ t. isSome (numberOf t)) (left s i) ≡ false
+pub no-digit-no-number : (s : List ℕ) (i : ℕ) → blank (getD s i 0) ≡ false → digit (getD s i 0) ≡ false → next (λ t. isSome (numberOf t)) (left s i) ≡ false
 no-digit-no-number s i b d =
     excluded s i (λ t. isSome (numberOf t)) b
     (record {

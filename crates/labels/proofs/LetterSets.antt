@@ -1,15 +1,17 @@
 -- Laws of sets of letters: which letters satisfy a formula, bit by bit.
-use mathlib.Core.Path.{_≡_, refl, sym, ap, _∙_}
-use mathlib.Core.Bool.{true, not, _&&_, _||_}
-use Prim.Native.Nat.{ℕ, _/_, _%_, _^_, _≤_, _<_}
+use mathlib.Core.Path.{_≡_, sym, ap, ap₂, _∙_}
+use mathlib.Core.Bool.{Bool, true, false, not, cond, _&&_, _||_, and-true, and-false, or-false}
+use Prim.Native.Nat.{ℕ, zero, suc, _%_, _^_, _≤_, _<_}
+use native.Mathlib.Decide.{ℕ-discrete}
 use native.Mathlib.Nat.{div-eq-of-lt}
 use native.Mathlib.Omega.{arith}
-use borrow.Author.Tests.{eqb-true}
+use borrow.Author.Tests.{eq-eqb, ne-eqb}
 use lib.Bits.{bitAnd, bitOr, bitXor}
 use lib.Dec.{eqb}
 use lib.Pow.{pow-mono}
-use Rattle.meaning.specs.Tests.{all, all-at}
-use Rattle.meaning.specs.BitSet.{digit, has, has-or, has-and, has-zero, has-all, has-not}
+use Rattle.meaning.specs.BitSet.{digit, has}
+use Rattle.meaning.specs.BitSetLaws.{has-or, has-and, has-zero, has-all, has-not}
+use Rattle.hoa_text.specs.SingleSets.{has-single}
 use Rattle.hoa_text.specs.Labels.{Formula, proposition, top, bottom, negation, conjunction, disjunction, holds}
 use Rattle.labels.specs.Answers.{Satisfy}
 
@@ -28,21 +30,37 @@ letters-and a b f g h k l i = has-and a b l ∙ ap (λ x. x && has b l) (h l i) 
 pub letters-or : (a b : ℕ) (f g : Formula) → Satisfy a f → Satisfy b g → Satisfy (bitOr a b) (disjunction f g)
 letters-or a b f g h k l i = has-or a b l ∙ ap (λ x. x || has b l) (h l i) ∙ ap (λ x. holds f l || x) (k l i)
 
--- a set of letters, bit by bit
-letters-of : (set i : ℕ) → all 16 (λ l. eqb (set / 2 ^ l % 2) (l / 2 ^ i % 2)) ≡ true → Satisfy set (proposition i)
-letters-of set i e l h = ap digit (eqb-true (set / 2 ^ l % 2) (l / 2 ^ i % 2) (all-at 16 (λ l. eqb (set / 2 ^ l % 2) (l / 2 ^ i % 2)) e l h))
+-- ---- the letters that have a proposition
 
-pub letters-0 : Satisfy 43690 (proposition 0)
-letters-0 = letters-of 43690 0 refl
+-- among the letters below n: one after another
+abbrev lettersWith : ℕ → ℕ → ℕ
+lettersWith zero i = 0
+lettersWith (suc n) i = bitOr (lettersWith n i) (cond (has n i) (2 ^ n) 0)
 
-pub letters-1 : Satisfy 52428 (proposition 1)
-letters-1 = letters-of 52428 1 refl
+-- the letter n alone, or none
+has-one : (b : Bool) (n l : ℕ) → has (cond b (2 ^ n) 0) l ≡ (b && eqb l n)
+has-one true n l = has-single n l
+has-one false n l = has-zero l
 
-pub letters-2 : Satisfy 61680 (proposition 2)
-letters-2 = letters-of 61680 2 refl
+letters-from : (n i l : ℕ) → n ≤ l → has (lettersWith n i) l ≡ false
+letters-from zero i l h = has-zero l
+letters-from (suc n) i l h =
+    has-or (lettersWith n i) (cond (has n i) (2 ^ n) 0) l
+    ∙ ap₂ _||_ (letters-from n i l (omega arith)) (has-one (has n i) n l ∙ ap (λ b. has n i && b) (ne-eqb l n (λ e. omega arith)) ∙ and-false (has n i))
 
-pub letters-3 : Satisfy 65280 (proposition 3)
-letters-3 = letters-of 65280 3 refl
+letters-below : (n i l : ℕ) → l < n → has (lettersWith n i) l ≡ has l i
+letters-below zero i l h = absurd (omega arith)
+letters-below (suc n) i l h = has-or (lettersWith n i) (cond (has n i) (2 ^ n) 0) l ∙ go (ℕ-discrete l n) (λ g. letters-below n i l g)
+  where
+    go : Dec (l ≡ n) → (l < n → has (lettersWith n i) l ≡ has l i) → (has (lettersWith n i) l || has (cond (has n i) (2 ^ n) 0) l) ≡ has l i
+    go (yes e) ih =
+        ap₂ _||_ (letters-from n i l (omega arith)) (has-one (has n i) n l ∙ ap (λ b. has n i && b) (eq-eqb l n e) ∙ and-true (has n i)) ∙ ap (λ m. has m i) (sym e)
+    go (no e) ih =
+        ap₂ _||_ (ih (omega arith)) (has-one (has n i) n l ∙ ap (λ b. has n i && b) (ne-eqb l n e) ∙ and-false (has n i)) ∙ or-false (has l i)
+
+-- for each proposition i
+pub letters-with : (i : ℕ) → Satisfy (lettersWith 16 i) (proposition i)
+letters-with i l h = letters-below 16 i l h
 
 -- a letter has no proposition past the fourth
 pub letters-past : (i : ℕ) → 4 ≤ i → Satisfy 0 (proposition i)

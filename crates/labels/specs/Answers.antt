@@ -4,11 +4,9 @@ use mathlib.Core.List.{List}
 use Prim.Native.Nat.{ℕ, _≤_, _<_}
 use lib.ListN.{length}
 use Rattle.meaning.specs.BitSet.{has}
-use lib.Seq.{slice}
-use Rattle.hoa_text.specs.Tokens.{word, stands}
+use Rattle.hoa_text.specs.Tokens.{left}
 use Rattle.hoa_text.specs.Grammar.{gives, refuses, Parsed}
-use Rattle.hoa_text.specs.Labels.{Formula, holds, atom, closed}
-use Rattle.hoa_text.specs.Offsets.{left}
+use Rattle.hoa_text.specs.Labels.{Formula, holds}
 use Rattle.labels.specs.declared.LabelRead.{LabelRead}
 use Rattle.labels.specs.declared.LabelRead.the-variants.{Letters, Refused}
 
@@ -27,15 +25,3 @@ pub record Read (s : List ℕ) (i : ℕ) (x : Parsed Formula) (set e : ℕ) : Ty
 abbrev pub Answers : List ℕ → ℕ → Parsed Formula → LabelRead → Type 0
 Answers s i x (Letters set e) = Read s i x set e
 Answers s i x (Refused r) = x ≡ refuses r
-
--- behind an expression in brackets whose letters are the set
-abbrev pub Closes : List ℕ → ℕ → ℕ → LabelRead → Type 0
-Closes s i set r = (f : Formula) → Satisfy set f → Answers s i (closed f (left s i)) r
-
--- an atom that is no number, whatever the number of propositions
-abbrev pub Constant : List ℕ → ℕ → LabelRead → Type 0
-Constant s i r = (k : ℕ) → Answers s i (atom k (left s i)) r
-
--- the word from i up to e as an atom
-abbrev pub Spelled : List ℕ → ℕ → ℕ → LabelRead → Type 0
-Spelled s i e r = (k : ℕ) → Answers s i (atom k (stands i (word (slice i e s)) (left s e))) r

@@ -12,10 +12,10 @@ ghost use mathlib.Core.Path.{_≡_};
 ghost use mathlib.Core.Bool.{true, false};
 ghost use Prim.Native.Nat.{_<_, _≤_};
 ghost use lib.ListN.{length, getD};
-ghost use Rattle.hoa_text.specs.Tokens.{blank, digit};
+ghost use Rattle.hoa_text.specs.Tokens.{blank, digit, left};
 ghost use Rattle.hoa_text.specs.Labels.{proposition, atom};
-ghost use Rattle.hoa_text.specs.Offsets.{left};
-ghost use Rattle.labels.specs.Answers.{Answers, Satisfy, Constant, Spelled};
+ghost use Rattle.labels.specs.Answers.{Answers, Satisfy};
+ghost use Rattle.labels.specs.Parts.{Constant, Spelled};
 
 // A number, at the digit that opens it.
 pub fn proposition(text: &[u8], at: usize, propositions: usize) -> LabelRead

@@ -1,15 +1,18 @@
 // The labels of edges, read as sets of letters.
 mod atoms;
+mod tokens;
 
 use atoms::constant;
 use atoms::proposition;
+use automaton::Automaton;
 use automaton::refusal::Refusal;
-use scan::behind;
-use scan::first_byte;
 use scan::offset;
+use tokens::LabelToken;
+use tokens::label_token;
 ghost use Rattle.hoa_text.specs.Labels.{label, unary, conjunctions, disjunctions};
-ghost use Rattle.hoa_text.specs.Offsets.{left};
-ghost use Rattle.labels.specs.Answers.{Answers, Closes};
+ghost use Rattle.hoa_text.specs.Tokens.{left};
+ghost use Rattle.labels.specs.Answers.{Answers};
+ghost use Rattle.labels.specs.Parts.{Closes};
 
 // What a label says: the letters that satisfy it, bit l for the letter l, and the offset behind it; or why it is refused.
 pub enum LabelRead {
@@ -20,7 +23,8 @@ pub enum LabelRead {
 // "open ! and brackets together nest at most 32 deep"
 const NESTING: usize = 32;
 
-const ALL: u16 = 65535;
+// The set of all letters; of all states too, of which there are as many.
+pub const ALL: u16 = ((1usize << Automaton::LETTERS) - 1) as u16;
 
 // The label at or after an offset.
 pub fn label(text: &[u8], at: usize, propositions: usize) -> LabelRead
@@ -38,17 +42,20 @@ fn or(text: &[u8], at: usize, propositions: usize, depth: usize) -> LabelRead
             let mut letters = first;
             let mut end = next;
             loop {
-                let operand = behind(text, end, b'|');
-                if operand == end {
-                    return LabelRead::Letters(letters, end);
-                }
-                match and(text, operand, propositions, depth) {
-                    LabelRead::Refused(refusal) => {
-                        return LabelRead::Refused(refusal);
+                match label_token(text, end) {
+                    LabelToken::Or(sign) => {
+                        match and(text, sign + 1, propositions, depth) {
+                            LabelRead::Refused(refusal) => {
+                                return LabelRead::Refused(refusal);
+                            }
+                            LabelRead::Letters(more, further) => {
+                                letters = letters | more;
+                                end = further;
+                            }
+                        }
                     }
-                    LabelRead::Letters(more, further) => {
-                        letters = letters | more;
-                        end = further;
+                    _ => {
+                        return LabelRead::Letters(letters, end);
                     }
                 }
             }
@@ -65,17 +72,20 @@ fn and(text: &[u8], at: usize, propositions: usize, depth: usize) -> LabelRead
             let mut letters = first;
             let mut end = next;
             loop {
-                let operand = behind(text, end, b'&');
-                if operand == end {
-                    return LabelRead::Letters(letters, end);
-                }
-                match unary(text, operand, propositions, depth) {
-                    LabelRead::Refused(refusal) => {
-                        return LabelRead::Refused(refusal);
+                match label_token(text, end) {
+                    LabelToken::And(sign) => {
+                        match unary(text, sign + 1, propositions, depth) {
+                            LabelRead::Refused(refusal) => {
+                                return LabelRead::Refused(refusal);
+                            }
+                            LabelRead::Letters(more, further) => {
+                                letters = letters & more;
+                                end = further;
+                            }
+                        }
                     }
-                    LabelRead::Letters(more, further) => {
-                        letters = letters & more;
-                        end = further;
+                    _ => {
+                        return LabelRead::Letters(letters, end);
                     }
                 }
             }
@@ -83,34 +93,32 @@ fn and(text: &[u8], at: usize, propositions: usize, depth: usize) -> LabelRead
     }
 }
 
-// The next byte chooses the token: `!`, a bracket, a proposition's number, or a word.
+// A negation, an expression in brackets, or an atom.
 fn unary(text: &[u8], at: usize, propositions: usize, depth: usize) -> LabelRead
     ensures { λ r. ⌜ Answers (now (text .entry)) at (unary depth propositions (left (now (text .entry)) at)) r ⌝ }
 {
-    let first = first_byte(text, at);
-    let offset = first.offset;
-    let byte = first.byte;
-    match byte {
-        b'!' => {
+    match label_token(text, at) {
+        LabelToken::Not(sign) => {
             if depth == 0 {
-                return LabelRead::Refused(Refusal::Size(offset));
+                return LabelRead::Refused(Refusal::Size(sign));
             }
-            match unary(text, offset + 1, propositions, depth - 1) {
+            match unary(text, sign + 1, propositions, depth - 1) {
                 LabelRead::Refused(refusal) => LabelRead::Refused(refusal),
                 LabelRead::Letters(letters, end) => LabelRead::Letters(letters ^ ALL, end),
             }
         }
-        b'(' => {
+        LabelToken::Open(sign) => {
             if depth == 0 {
-                return LabelRead::Refused(Refusal::Size(offset));
+                return LabelRead::Refused(Refusal::Size(sign));
             }
-            match or(text, offset + 1, propositions, depth - 1) {
+            match or(text, sign + 1, propositions, depth - 1) {
                 LabelRead::Refused(refusal) => LabelRead::Refused(refusal),
                 LabelRead::Letters(letters, end) => closed(text, letters, end),
             }
         }
-        b'0'..=b'9' => proposition(text, offset, propositions),
-        _ => constant(text, offset),
+        LabelToken::Number(number) => proposition(text, number, propositions),
+        LabelToken::Constant(word) => constant(text, word),
+        _ => LabelRead::Refused(Refusal::Form(offset(text, at))),
     }
 }
 
@@ -118,9 +126,8 @@ fn unary(text: &[u8], at: usize, propositions: usize, depth: usize) -> LabelRead
 fn closed(text: &[u8], letters: u16, at: usize) -> LabelRead
     ensures { λ r. ⌜ Closes (now (text .entry)) at letters r ⌝ }
 {
-    let end = behind(text, at, b')');
-    if end == at {
-        return LabelRead::Refused(Refusal::Form(offset(text, at)));
+    match label_token(text, at) {
+        LabelToken::Close(sign) => LabelRead::Letters(letters, sign + 1),
+        _ => LabelRead::Refused(Refusal::Form(offset(text, at))),
     }
-    LabelRead::Letters(letters, end)
 }

@@ -8,7 +8,7 @@ use native.Mathlib.Nat.{not-suc-le-zero, le-refl, le-trans, zero-add, add-zero, 
 use native.Mathlib.Omega.{arith}
 use lib.ListN.{length}
 use Rattle.meaning.specs.Pigeonhole.{Twice, pigeonhole}
-use Rattle.meaning.specs.Tests.{truth, same-truth}
+use Rattle.meaning.specs.TestLaws.{truth, same-truth}
 use Rattle.meaning.specs.Walk.{run}
 use Rattle.meaning.specs.ShortWalk.{Numbered}
 use Rattle.meaning.specs.Automata.{Aut, Word, state, union, carries}

@@ -10,7 +10,7 @@ use native.Mathlib.Omega.{arith}
 use lib.Dec.{eqb}
 use lib.ListN.{length}
 use borrow.Author.Tests.{eq-eqb, eqb-true}
-use Rattle.meaning.specs.Tests.{and-true, and-left, and-right, truth}
+use Rattle.meaning.specs.TestLaws.{and-true, and-left, and-right, truth}
 use Rattle.meaning.specs.Walk.{run, meets}
 use Rattle.meaning.specs.Automata.{Aut, WellFormed, Word, Inf, Accepts, state}
 use Rattle.meaning.specs.Agreement.{Over, lasso}

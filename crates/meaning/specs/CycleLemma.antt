@@ -6,8 +6,9 @@ use mathlib.Core.Bool.{Bool, true, false, false≢true}
 use Prim.Native.Nat.{ℕ, suc, _+_, _-_, _*_, _<_}
 use native.Mathlib.Omega.{arith}
 use Rattle.meaning.specs.Pigeonhole.{Twice, pigeonhole}
-use Rattle.meaning.specs.Tests.{same-truth}
-use Rattle.meaning.specs.Walk.{run, run-append}
+use Rattle.meaning.specs.TestLaws.{same-truth}
+use Rattle.meaning.specs.Walk.{run}
+use Rattle.meaning.specs.WalkLaws.{run-append}
 use Rattle.meaning.specs.ShortWalk.{Numbered, ok-run}
 use Rattle.meaning.specs.Automata.{Aut, Word, Inf, Accepts}
 use Rattle.meaning.specs.Agreement.{Agree, AgreeOn, Comparable, Over, lasso}

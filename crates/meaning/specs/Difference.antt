@@ -5,8 +5,9 @@ use mathlib.Core.List.{List, []}
 use mathlib.Core.Bool.{Bool, true, false}
 use Prim.Native.Nat.{ℕ, suc, _+_, _*_, _≤_, _<_}
 use lib.ListN.{length}
-use Rattle.meaning.specs.Tests.{all-at, all-of, all-not, all-off}
-use Rattle.meaning.specs.Walk.{run, Walk, meets, meets-none, walk-map, walk-off}
+use Rattle.meaning.specs.TestLaws.{all-at, all-of, all-not, all-off}
+use Rattle.meaning.specs.Walk.{run, Walk, meets}
+use Rattle.meaning.specs.WalkLaws.{meets-none, walk-map, walk-off}
 use Rattle.meaning.specs.ShortWalk.{short}
 use Rattle.meaning.specs.Automata.{Aut, EverySet}
 use Rattle.meaning.specs.Agreement.{Comparable, Over}

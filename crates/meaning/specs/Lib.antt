@@ -1,9 +1,12 @@
 pub mod Automata
 pub mod Agreement
 pub mod Tests
+pub mod TestLaws
 pub mod Counting
+pub mod CountingLaws
 pub mod Pigeonhole
 pub mod Walk
+pub mod WalkLaws
 pub mod ShortWalk
 pub mod Reachability
 pub mod LassoWord
@@ -19,3 +22,4 @@ pub mod WordSearch
 pub mod Decision
 pub mod AllWords
 pub mod BitSet
+pub mod BitSetLaws

@@ -7,7 +7,8 @@ use Prim.Native.Nat.{ℕ, zero, suc, _≤_, _<_}
 use native.Mathlib.Nat.{le-of-suc-le-suc, not-suc-le-zero}
 use native.Mathlib.Omega.{arith}
 use lib.ListN.{length}
-use Rattle.meaning.specs.Tests.{or-left, or-right, or-cases, and-true, and-left, and-right, any, any-at, any-find}
+use Rattle.meaning.specs.Tests.{any}
+use Rattle.meaning.specs.TestLaws.{or-left, or-right, or-cases, and-true, and-left, and-right, any-at, any-find}
 use Rattle.meaning.specs.Walk.{run, Walk}
 use Rattle.meaning.specs.ShortWalk.{Numbered, short}
 

@@ -6,7 +6,7 @@ use Prim.Native.Nat.{ℕ, zero, suc, _≤_, _<_, max}
 use native.Mathlib.Nat.{not-suc-le-zero}
 use native.Mathlib.Decide.{ℕ-discrete}
 use native.Mathlib.Omega.{arith}
-use Rattle.meaning.specs.Tests.{and-true, and-left, and-right, any-at, any-find, all-at, all-of, truth, same-truth}
+use Rattle.meaning.specs.TestLaws.{and-true, and-left, and-right, any-at, any-find, all-at, all-of, truth, same-truth}
 use Rattle.meaning.specs.Automata.{Aut, WellFormed, EverySet, Word, Inf, Accepts, Takes, state, union, MetInfinitelyOften, MetFinitelyOften}
 use Rattle.meaning.specs.Run.{state-lt}
 

@@ -7,7 +7,7 @@ use Prim.Native.Nat.{ℕ, zero, suc, _+_, _≤_, _<_}
 use native.Mathlib.Nat.{add-zero, not-suc-le-zero, le-of-suc-le-suc}
 use native.Mathlib.Omega.{arith}
 use lib.ListN.{length}
-use Rattle.meaning.specs.Tests.{or-left, or-right, or-cases}
+use Rattle.meaning.specs.TestLaws.{or-left, or-right, or-cases}
 use Rattle.meaning.specs.Walk.{run, meets}
 use Rattle.meaning.specs.Automata.{Aut, WellFormed, Word, state}
 use Rattle.meaning.specs.Agreement.{Over}

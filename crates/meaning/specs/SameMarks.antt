@@ -9,8 +9,9 @@ use native.Mathlib.Nat.{add-sub-cancel-left}
 use native.Mathlib.Decide.{decLt}
 use native.Mathlib.Omega.{arith}
 use lib.ListN.{length}
-use Rattle.meaning.specs.Tests.{or-left, or-right, or-cases, same-truth}
-use Rattle.meaning.specs.Walk.{run, Walk, meets, walk-map}
+use Rattle.meaning.specs.TestLaws.{or-left, or-right, or-cases, same-truth}
+use Rattle.meaning.specs.Walk.{run, Walk, meets}
+use Rattle.meaning.specs.WalkLaws.{walk-map}
 use Rattle.meaning.specs.ShortWalk.{Numbered, restrict, restrict-ok}
 use Rattle.meaning.specs.Tour.{Tour, tour}
 use Rattle.meaning.specs.Automata.{Aut}

@@ -7,7 +7,8 @@ use native.Mathlib.Decide.{decLt}
 use native.Mathlib.Omega.{arith}
 use lib.ListN.{length, take, drop, length-append, length-take, length-drop}
 use Rattle.meaning.specs.Pigeonhole.{Twice, pigeonhole}
-use Rattle.meaning.specs.Walk.{run, Walk, run-append, run-split, walk-append, walk-take, walk-drop}
+use Rattle.meaning.specs.Walk.{run, Walk}
+use Rattle.meaning.specs.WalkLaws.{run-append, run-split, walk-append, walk-take, walk-drop}
 
 -- The nodes that a walk in E from a node of Ok can reach are numbered, below N.
 pub record Numbered {Q : Type 0} (σ : Q → ℕ → Q) (E : Q → ℕ → Type 0) (N : ℕ) : Type 1 where

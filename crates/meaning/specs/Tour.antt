@@ -8,8 +8,9 @@ use native.Mathlib.Nat.{not-suc-le-zero, suc-mul, zero-mul}
 use native.Mathlib.Decide.{ℕ-discrete}
 use native.Mathlib.Omega.{arith}
 use lib.ListN.{length, length-append}
-use Rattle.meaning.specs.Tests.{or-left}
-use Rattle.meaning.specs.Walk.{run, Walk, meets, run-append, walk-append, walk-left, walk-right, meets-left, meets-right, meets-split}
+use Rattle.meaning.specs.TestLaws.{or-left}
+use Rattle.meaning.specs.Walk.{run, Walk, meets}
+use Rattle.meaning.specs.WalkLaws.{run-append, walk-append, walk-left, walk-right, meets-left, meets-right, meets-split}
 use Rattle.meaning.specs.ShortWalk.{Numbered, Shortened, short, ok-run}
 
 module _ {Q : Type 0} (σ : Q → ℕ → Q) {E : Q → ℕ → Type 0} {N : ℕ} (G : Numbered σ E N) (kind : ℕ → Q → ℕ → Bool) (n : Q) (ok : G .Ok n) where

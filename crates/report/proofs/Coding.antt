@@ -6,7 +6,7 @@ use Rattle.automaton.specs.declared.refusal.Refusal.{Refusal}
 use Rattle.automaton.specs.declared.refusal.Code.{Code}
 use Rattle.automaton.specs.Refused.{codeOf}
 use Rattle.decimal.specs.Wrote.{Wrote}
-use Rattle.hoa_text.specs.Basics.{bytes}
+use Rattle.automaton.specs.Bytes.{bytes}
 use Rattle.report.specs.Lines.{row, refusedLine}
 
 pub coded : (x : Refusal) {k : Code} {d e : List ℕ} {r : ℕ} → k ≡ codeOf x → Wrote d 0 (bytes "refused" ++ row (k .number ∷ k .first ∷ k .second ∷ [])) e r

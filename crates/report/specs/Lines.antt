@@ -5,7 +5,7 @@ use Prim.Native.String.{String}
 use Rattle.automaton.specs.declared.refusal.Refusal.{Refusal}
 use Rattle.automaton.specs.Refused.{codeOf}
 use Rattle.decimal.specs.Decimal.{decimal}
-use Rattle.hoa_text.specs.Basics.{bytes}
+use Rattle.automaton.specs.Bytes.{bytes}
 
 -- numbers, each after one space (32), and a line feed (10)
 abbrev pub row : List ℕ → List ℕ

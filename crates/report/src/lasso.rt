@@ -1,8 +1,8 @@
 // The two lines of a lasso word, its letters as numbers.
-use crate::pieces::spaced;
+use crate::parts::spaced;
 use compare::Comparison;
-use hoa_write::pieces::byte;
-use hoa_write::pieces::word;
+use pieces::byte;
+use pieces::word;
 ghost use mathlib.Core.Path.{_≡_};
 ghost use mathlib.Core.List.{_++_};
 ghost use Prim.Native.Nat.{_+_, _*_, _≤_};

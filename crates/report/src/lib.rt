@@ -1,4 +1,4 @@
 // The lines that the programs print beside HOA text and clauses.
 pub mod lasso;
 pub mod lines;
-pub mod pieces;
+mod parts;

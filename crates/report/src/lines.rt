@@ -1,8 +1,8 @@
 // Lines of a name and numbers.
-use crate::pieces::spaced;
+use crate::parts::spaced;
 use automaton::refusal::Refusal;
-use hoa_write::pieces::byte;
-use hoa_write::pieces::word;
+use pieces::byte;
+use pieces::word;
 ghost use mathlib.Core.List.{[], _∷_, _++_};
 ghost use Prim.Native.Nat.{_+_, _≤_};
 ghost use lib.ListN.{length};

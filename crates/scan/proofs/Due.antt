@@ -7,9 +7,8 @@ use denote.Enum.Declared.{tagOf, declared}
 use types.Run.{OneOf, miss}
 use Rattle.automaton.specs.declared.refusal.Refusal.the-variants.{Form}
 use Rattle.hoa_text.specs.Basics.{option}
-use Rattle.hoa_text.specs.Tokens.{Stream}
+use Rattle.hoa_text.specs.Tokens.{Stream, left}
 use Rattle.hoa_text.specs.Grammar.{numberOf, rest, at, peek, gives, refuses, due}
-use Rattle.hoa_text.specs.Offsets.{left}
 use Rattle.scan.specs.declared.Token.{Token}
 use Rattle.scan.specs.declared.Token.the-variants.{Word, Item, Number, Quoted, Sign, Body, End, Abort, Unread, Over, Broken}
 use Rattle.scan.specs.Answers.{stream, Reads}

@@ -1,6 +1,6 @@
 -- Laws of the tokens at an offset.
 use mathlib.Core.Path.{_≡_, refl, sym, ap, _∙_, subst}
-use mathlib.Core.Logic.{_≢_, ⊎-elim}
+use mathlib.Core.Logic.{_≢_, _⊎_, inl, inr, ⊎-elim}
 use mathlib.Core.Bool.{Bool, true, false, not, _&&_, _||_, true≢false, false≢true, and-false}
 use mathlib.Core.List.{List, [], _∷_}
 use Prim.Native.Nat.{ℕ, _+_, _-_, _*_, _≤_, _<_, min}
@@ -13,18 +13,20 @@ use lib.ListN.{length, getD, drop, length-drop, drop-of-length-le, List·getD-eq
 use lib.Seq.{slice, slice-empty, drop-cons}
 use denote.Enum.Declared.{tagOf, declared}
 use types.Run.{OneOf, miss}
-use Rattle.meaning.specs.Tests.{and-right, or-cases}
-use Rattle.hoa_text.specs.Basics.{bytes, begins}
-use Rattle.hoa_text.specs.Tokens.{blank, digit, opensWord, inWord, sign, token, leadingZero, value, piece, stands}
+use Rattle.meaning.specs.TestLaws.{and-right, or-cases}
+use Rattle.automaton.specs.Bytes.{bytes}
+use Rattle.hoa_text.specs.Basics.{begins}
+use Rattle.hoa_text.specs.Tokens.{blank, digit, opensWord, inWord, sign, token, leadingZero, value, piece, stands, left}
 use Rattle.hoa_text.specs.Grammar.{next, at}
-use Rattle.hoa_text.specs.Offsets.{left, inside, left-over, left-blank}
+use Rattle.hoa_text.specs.Offsets.{inside, left-over, left-blank}
 use Rattle.hoa_text.specs.Numbers.{value-next, leads-zero, one-digit, digit-from}
 use Rattle.hoa_text.specs.RunOffsets.{Run, word-from, left-number, left-word, left-item, left-alias, left-at}
 use Rattle.hoa_text.specs.QuotedOffsets.{InQuotes, quotes-carried, quotes-more, left-quoted, left-unquoted}
 use Rattle.hoa_text.specs.SignOffsets.{left-mark, left-body, left-end, left-abort, left-dash, opensSign, OpensNone, left-none}
 use Rattle.scan.specs.declared.Token.{Token}
 use Rattle.scan.specs.declared.Token.the-variants.{Word, Item, Number, Quoted, Sign, Body, End, Abort, Unread, Over, Broken}
-use Rattle.scan.specs.Answers.{stream, Within, Ends, Lies, Reads, Skipped, Digits, Other, isSignOf, Behind}
+use Rattle.scan.specs.Answers.{stream, Within, Longest, Ends, Spelled, Lies, Reads, Skipped, isSignOf, Behind}
+use Rattle.scan.specs.Kinds.{Digits, Other}
 use Rattle.scan.proofs.Token.{enum}
 
 pub past : (s : List ℕ) (i : ℕ) → length s ≤ i → 0 ≡ getD s i 0
@@ -97,15 +99,15 @@ module _ (s : List ℕ) (i v e : ℕ) (h : digit (getD s i 0) ≡ true) (d : Dig
   tail : Run digit s (i + 1) e
   tail = record { from = omega (arith, longer); to = d .run .to; within = λ j a b. d .run .within j (omega arith) b; ends = d .run .ends }
 
-  within : Within s i i e
-  within = record { from = omega arith; longer = longer; to = d .run .to }
+  longest : Longest digit s i i e
+  longest = record { from = omega arith; longer = longer; to = d .run .to; within = d .run .within; ends = d .run .ends }
 
   pub zero-leads : getD s i 0 ≡ 48 → i + 1 < e → Reads s i (Unread i e)
   zero-leads z l =
-      record { is = left-number s i e h tail ∙ rw (leads-zero s i e l (d .run .to), z); lies = within }
+      record { is = left-number s i e h tail ∙ rw (leads-zero s i e l (d .run .to), z); lies = inl longest }
 
   is-number : leadingZero (slice i e s) ≡ false → Reads s i (Number i v e)
-  is-number z = record { is = left-number s i e h tail ∙ rw (z, d .is); lies = within }
+  is-number z = record { is = left-number s i e h tail ∙ rw (z, d .is); lies = longest }
 
   pub zero-alone : e ≤ i + 1 → Reads s i (Number i v e)
   zero-alone l = let m : i + 1 ≡ e = omega (arith, longer) in is-number (subst (λ n. leadingZero (slice i n s) ≡ false) m (one-digit s i starts))
@@ -123,14 +125,28 @@ module _ (s : List ℕ) (i e : ℕ) (g : Run inWord s (i + 1) e) where
   pub is-item : opensWord (getD s i 0) ≡ true → getD s e 0 ≡ 58 → Reads s i (Item i e)
   is-item h q =
       let l : e < length s = inside s e (omega arith) in
-      record { is = left-item s i e h g q; lies = record { from = omega arith; longer = omega (arith, g .from); to = omega arith } }
+      record { is = left-item s i e h g q; lies = record { from = omega arith; longer = omega (arith, g .from); to = omega arith; last = q } }
 
   pub is-word : opensWord (getD s i 0) ≡ true → getD s e 0 ≢ 58 → Reads s i (Word i e)
-  is-word h q = record { is = left-word s i e h g q; lies = record { from = omega arith; longer = omega (arith, g .from); to = g .to } }
+  is-word h q = record {
+    is = left-word s i e h g q;
+    lies = record { from = omega arith; longer = omega (arith, g .from); to = g .to; within = λ j a b. go j a b (decLt i j); ends = g .ends };
+  }
+    where
+      go : (j : ℕ) → i ≤ j → j < e → Dec (i < j) → inWord (getD s j 0) ≡ true
+      go j a b (yes l) = g .within j (omega arith) b
+      go j a b (no l) = let m : i ≡ j = omega arith in subst (λ n. inWord (getD s n 0) ≡ true) m (rw h)
 
   pub is-alias : getD s i 0 ≡ 64 → e ≢ i + 1 → Reads s i (Unread i e)
   is-alias h q =
-      record { is = left-alias s i e h g (omega (arith, g .from)); lies = record { from = omega arith; longer = omega (arith, g .from); to = g .to } }
+      record {
+        is = left-alias s i e h g (omega (arith, g .from));
+        lies = inr (record {
+          from = omega arith;
+          opens = h;
+          name = record { from = omega arith; longer = omega (arith, g .from); to = g .to; within = g .within; ends = g .ends };
+        });
+      }
 
   pub at-alone : getD s i 0 ≡ 64 → e ≡ i + 1 → Reads s i (Broken i i)
   at-alone h q = record { is = left-at s i e h g q; lies = omega arith }
@@ -151,7 +167,7 @@ quotes-close true h g q = absurd (false≢true q)
 quotes-close {s} {i} {a} false h g q =
     let z : getD s a 0 ≡ 34 = eqb-true (getD s a 0) 34 q in
     let l : a < length s = inside s a (omega arith) in
-    record { is = left-quoted s i h a g z; lies = record { from = omega arith; longer = omega (arith, g .from); to = omega arith } }
+    record { is = left-quoted s i h a g z; lies = record { from = omega arith; longer = omega (arith, g .from); to = omega arith; last = z } }
 
 pub quotes-cut : {s : List ℕ} {i a : ℕ} (c : Bool) → getD s i 0 ≡ 34 → InQuotes s (i + 1) a c → length s ≤ a → Reads s i (Broken i a)
 quotes-cut {s} {i} {a} c h g l =
@@ -179,13 +195,13 @@ module _ (s : List ℕ) (i : ℕ) (h : getD s i 0 ≡ 45) where
   room w b = omega (arith, inside s i (omega arith), begins-length w (drop i s) b, length-drop i s)
 
   pub is-body : begins (bytes "--BODY--") (drop i s) ≡ true → Reads s i (Body i)
-  is-body b = record { is = left-body s i b; lies = record { from = omega arith; longer = omega arith; to = room (bytes "--BODY--") b } }
+  is-body b = record { is = left-body s i b; lies = record { from = omega arith; longer = omega arith; to = room (bytes "--BODY--") b; is = b } }
 
   pub is-end : begins (bytes "--END--") (drop i s) ≡ true → Reads s i (End i)
-  is-end b = record { is = left-end s i b; lies = record { from = omega arith; longer = omega arith; to = room (bytes "--END--") b } }
+  is-end b = record { is = left-end s i b; lies = record { from = omega arith; longer = omega arith; to = room (bytes "--END--") b; is = b } }
 
   pub is-abort : begins (bytes "--ABORT--") (drop i s) ≡ true → Reads s i (Abort i)
-  is-abort b = record { is = left-abort s i b; lies = record { from = omega arith; longer = omega arith; to = room (bytes "--ABORT--") b } }
+  is-abort b = record { is = left-abort s i b; lies = record { from = omega arith; longer = omega arith; to = room (bytes "--ABORT--") b; is = b } }
 
   pub is-no-word : begins (bytes "--BODY--") (drop i s) ≡ false → begins (bytes "--END--") (drop i s) ≡ false → begins (bytes "--ABORT--") (drop i s) ≡ false
       → Reads s i (Broken i i)
@@ -233,19 +249,26 @@ module _ (s : List ℕ) (i b : ℕ) (o : Other s i b) where
 within-before : {s : List ℕ} {i e o n : ℕ} → i ≤ e → Within s e o n → Within s i o n
 within-before h w = record { from = omega (arith, w .from); longer = w .longer; to = w .to }
 
-ends-before : {s : List ℕ} {i e o n : ℕ} → i ≤ e → Ends s e o n → Ends s i o n
-ends-before h w = record { from = omega (arith, w .from); longer = w .longer; to = w .to }
+longest-before : {p : ℕ → Bool} {s : List ℕ} {i e o n : ℕ} → i ≤ e → Longest p s e o n → Longest p s i o n
+longest-before h w = record { from = omega (arith, w .from); longer = w .longer; to = w .to; within = w .within; ends = w .ends }
+
+ends-before : {b : ℕ} {s : List ℕ} {i e o n : ℕ} → i ≤ e → Ends b s e o n → Ends b s i o n
+ends-before h w = record { from = omega (arith, w .from); longer = w .longer; to = w .to; last = w .last }
+
+spelled-before : {v s : List ℕ} {i e o n : ℕ} → i ≤ e → Spelled v s e o n → Spelled v s i o n
+spelled-before h w = record { from = omega (arith, w .from); longer = w .longer; to = w .to; is = w .is }
 
 lies-before : (s : List ℕ) (i e : ℕ) (t : Token) → i ≤ e → Lies s e t → Lies s i t
-lies-before s i e (Word o n) h l = within-before h l
+lies-before s i e (Word o n) h l = longest-before h l
 lies-before s i e (Item o n) h l = ends-before h l
-lies-before s i e (Number o v n) h l = within-before h l
+lies-before s i e (Number o v n) h l = longest-before h l
 lies-before s i e (Quoted o n) h l = ends-before h l
 lies-before s i e (Sign o b) h l = within-before h l
-lies-before s i e (Body o) h l = within-before h l
-lies-before s i e (End o) h l = within-before h l
-lies-before s i e (Abort o) h l = within-before h l
-lies-before s i e (Unread o n) h l = within-before h l
+lies-before s i e (Body o) h l = spelled-before h l
+lies-before s i e (End o) h l = spelled-before h l
+lies-before s i e (Abort o) h l = spelled-before h l
+lies-before s i e (Unread o n) h (inl l) = inl (longest-before h l)
+lies-before s i e (Unread o n) h (inr l) = inr (record { from = omega (arith, l .from); opens = l .opens; name = l .name })
 lies-before s i e (Over o) h l = omega arith
 lies-before s i e (Broken o r) h l = omega arith
 

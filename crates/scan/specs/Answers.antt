@@ -1,17 +1,18 @@
--- DEFINITION of what an answer of `next_token` says: the tokens that are left in the text (`Reads`). The other records are contracts of inner functions.
+-- DEFINITIONS: what an answer of `next_token` says (`Reads`): the tokens that are left in the text, and where the answered one stands and ends. What
+-- `first_byte` (`Skipped`) and `behind` (`Behind`) say.
 use mathlib.Core.Path.{_≡_}
-use mathlib.Core.Logic.{_≢_}
-use mathlib.Core.Bool.{Bool, false}
+use mathlib.Core.Logic.{_≢_, _⊎_}
+use mathlib.Core.Bool.{Bool, true, false}
 use mathlib.Core.List.{List, [], _∷_}
+use Prim.Native.Char.{code}
 use Prim.Native.Nat.{ℕ, _+_, _-_, _≤_, _<_}
-use lib.ListN.{length, getD}
+use lib.ListN.{length, getD, drop}
 use lib.Seq.{slice}
-use Rattle.hoa_text.specs.Basics.{option, bytes, same}
-use Rattle.hoa_text.specs.Tokens.{blank, digit, word, item, number, quoted, sign, unread, value, Stream, stands, over, broken}
+use Rattle.automaton.specs.Bytes.{bytes}
+use Rattle.hoa_text.specs.Basics.{option, same, begins}
+use Rattle.hoa_text.specs.Tokens.{blank, digit, inWord, word, item, number, quoted, sign, unread, Stream, stands, over, broken, left}
 use Rattle.hoa_text.specs.Tokens as Hoa
 use Rattle.hoa_text.specs.Grammar.{signOf, next}
-use Rattle.hoa_text.specs.Offsets.{left}
-use Rattle.hoa_text.specs.RunOffsets.{Run}
 use Rattle.scan.specs.declared.Token.{Token}
 use Rattle.scan.specs.declared.Token.the-variants.{Word, Item, Number, Quoted, Sign, Body, End, Abort, Unread, Over, Broken}
 
@@ -29,28 +30,53 @@ stream s (Unread o e) = stands o unread (left s e)
 stream s (Over o) = over o
 stream s (Broken o r) = broken o r
 
--- a token from o up to e, at or after i
+-- ---- where a token stands, at or after i: its ends are exact, and no blank behind it belongs to it
+
+-- from o up to e
 pub record Within (s : List ℕ) (i o e : ℕ) : Type 0 where
   pub from : i ≤ o
   pub longer : o < e
   pub to : e ≤ length s
 
--- a token from o to its last byte at e, a colon or a quote, at or after i
-pub record Ends (s : List ℕ) (i o e : ℕ) : Type 0 where
+-- "Tokens are HOA v1's, the longest first": from o up to e all bytes are as p says, and that at e is not
+pub record Longest (p : ℕ → Bool) (s : List ℕ) (i o e : ℕ) : Type 0 where
+  pub from : i ≤ o
+  pub longer : o < e
+  pub to : e ≤ length s
+  pub within : (j : ℕ) → o ≤ j → j < e → p (getD s j 0) ≡ true
+  pub ends : p (getD s e 0) ≡ false
+
+-- ANAME: an `@` at o, and then a word's bytes up to e, the longest run of them
+pub record Alias (s : List ℕ) (i o e : ℕ) : Type 0 where
+  pub from : i ≤ o
+  pub opens : getD s o 0 ≡ code "@"
+  pub name : Longest inWord s (o + 1) (o + 1) e
+
+-- from o to its last byte b at e, a colon or a quote
+pub record Ends (b : ℕ) (s : List ℕ) (i o e : ℕ) : Type 0 where
   pub from : i ≤ o
   pub longer : o < e
   pub to : e + 1 ≤ length s
+  pub last : getD s e 0 ≡ b
+
+-- the word w of the body from o up to e, "matched byte for byte"
+pub record Spelled (w : List ℕ) (s : List ℕ) (i o e : ℕ) : Type 0 where
+  pub from : i ≤ o
+  pub longer : o < e
+  pub to : e ≤ length s
+  pub is : begins w (drop o s) ≡ true
 
 abbrev pub Lies : List ℕ → ℕ → Token → Type 0
-Lies s i (Word o e) = Within s i o e
-Lies s i (Item o e) = Ends s i o e
-Lies s i (Number o v e) = Within s i o e
-Lies s i (Quoted o e) = Ends s i o e
+Lies s i (Word o e) = Longest inWord s i o e
+Lies s i (Item o e) = Ends (code ":") s i o e
+Lies s i (Number o v e) = Longest digit s i o e
+Lies s i (Quoted o e) = Ends (code "\"") s i o e
 Lies s i (Sign o b) = Within s i o (o + 1)
-Lies s i (Body o) = Within s i o (o + 8)
-Lies s i (End o) = Within s i o (o + 7)
-Lies s i (Abort o) = Within s i o (o + 9)
-Lies s i (Unread o e) = Within s i o e
+Lies s i (Body o) = Spelled (bytes "--BODY--") s i o (o + 8)
+Lies s i (End o) = Spelled (bytes "--END--") s i o (o + 7)
+Lies s i (Abort o) = Spelled (bytes "--ABORT--") s i o (o + 9)
+-- digits with a leading zero, or an ANAME
+Lies s i (Unread o e) = Longest digit s i o e ⊎ Alias s i o e
 Lies s i (Over o) = i ≤ o
 Lies s i (Broken o r) = i ≤ o
 
@@ -58,6 +84,14 @@ Lies s i (Broken o r) = i ≤ o
 pub record Reads (s : List ℕ) (i : ℕ) (t : Token) : Type 0 where
   pub is : left s i ≡ stream s t
   pub lies : Lies s i t
+
+-- ---- blanks
+
+-- blanks from i up to e, where none stands
+pub record Skipped (s : List ℕ) (i e : ℕ) : Type 0 where
+  pub from : i ≤ e
+  pub is : left s i ≡ left s e
+  pub ends : blank (getD s e 0) ≡ false
 
 -- ---- one sign
 
@@ -71,25 +105,3 @@ pub record Behind (s : List ℕ) (i b r : ℕ) : Type 0 where
   pub absent : r ≡ i → next (isSignOf b) (left s i) ≡ false
   pub present : r ≢ i → left s i ≡ stands (r - 1) (sign (b ∷ [])) (left s r)
   pub to : r ≢ i → r ≤ length s
-
--- ---- inner functions
-
--- blanks from i up to e
-pub record Skipped (s : List ℕ) (i e : ℕ) : Type 0 where
-  pub from : i ≤ e
-  pub is : left s i ≡ left s e
-  pub ends : blank (getD s e 0) ≡ false
-
-pub record Digits (s : List ℕ) (i v e : ℕ) : Type 0 where
-  pub run : Run digit s i e
-  pub is : v ≡ value (slice i e s)
-
--- the byte b at i opens no number, no quoted text, no ANAME and no word of the body
-pub record Other (s : List ℕ) (i b : ℕ) : Type 0 where
-  pub inside : i < length s
-  pub is : b ≡ getD s i 0
-  pub no-blank : blank b ≡ false
-  pub no-digit : digit b ≡ false
-  pub no-quote : b ≢ 34
-  pub no-at : b ≢ 64
-  pub no-dash : b ≢ 45

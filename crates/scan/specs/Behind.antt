@@ -6,10 +6,10 @@ use mathlib.Core.List.{List, [], _∷_}
 use Prim.Native.Nat.{ℕ, _-_}
 use Prim.Native.String.{String}
 use borrow.Author.Tests.{eq-eqb}
-use Rattle.hoa_text.specs.Basics.{option, bytes, same}
-use Rattle.hoa_text.specs.Tokens.{Stream}
+use Rattle.automaton.specs.Bytes.{bytes}
+use Rattle.hoa_text.specs.Basics.{option, same}
+use Rattle.hoa_text.specs.Tokens.{Stream, left}
 use Rattle.hoa_text.specs.Grammar.{signOf, isSign, next, rest, at}
-use Rattle.hoa_text.specs.Offsets.{left}
 use Rattle.scan.specs.Answers.{isSignOf, Behind}
 
 module _ (w : String) (b : ℕ) (spelled : bytes w ≡ b ∷ []) (s : List ℕ) (i e : ℕ) (h : Behind s i b e) where

@@ -16,9 +16,10 @@ use quoted::quoted;
 use signs::body_word;
 ghost use mathlib.Core.Path.{_≡_};
 ghost use lib.ListN.{getD};
+ghost use Rattle.hoa_text.specs.Tokens.{left};
 ghost use Rattle.hoa_text.specs.Grammar.{at};
-ghost use Rattle.hoa_text.specs.Offsets.{left};
-ghost use Rattle.scan.specs.Answers.{Reads, Skipped, Other, Behind};
+ghost use Rattle.scan.specs.Answers.{Reads, Skipped, Behind};
+ghost use Rattle.scan.specs.Kinds.{Other};
 
 // What stands first at or after an offset. The first number of each is the token's offset.
 pub enum Token {

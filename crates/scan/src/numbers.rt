@@ -6,7 +6,8 @@ ghost use mathlib.Core.Bool.{true};
 ghost use Prim.Native.Nat.{_+_, _-_, _*_, _≤_, min};
 ghost use lib.ListN.{length, getD};
 ghost use Rattle.hoa_text.specs.Tokens.{digit};
-ghost use Rattle.scan.specs.Answers.{Reads, Digits};
+ghost use Rattle.scan.specs.Answers.{Reads};
+ghost use Rattle.scan.specs.Kinds.{Digits};
 
 pub fn number(text: &[u8], start: usize) -> Token
     requires { ⌜ digit (getD (now text) start 0) ≡ true ⌝ }
@@ -22,12 +23,15 @@ pub fn number(text: &[u8], start: usize) -> Token
     Token::Number(start, run.value, end)
 }
 
+// Numbers have any length, and saturate here: every limit lies below it.
+const LARGEST: usize = 255;
+
 struct DigitRun {
     value: usize,
     end: usize,
 }
 
-// The run of digits at `start`: its value, 255 where it is more, and its end.
+// The run of digits at `start`: its value, `LARGEST` where it is more, and its end.
 fn digits(text: &[u8], start: usize) -> DigitRun
     requires { ⌜ start ≤ length (now text) ⌝ }
     ensures { λ r. ⌜ Digits (now (text .entry)) start (r .value) (r .end) ⌝ }
@@ -50,7 +54,7 @@ fn with_digit(value: usize, byte: u8) -> usize
     ensures { λ r. ⌜ r ≡ min (value * 10 + (byte - 48)) 255 ⌝ }
 {
     let more = value * 10 + wide(byte - b'0');
-    if more <= 255 { more } else { 255 }
+    if more <= LARGEST { more } else { LARGEST }
 }
 
 fn wide(byte: u8) -> usize

@@ -7,10 +7,11 @@ use borrow.Author.Tests.{ltb-true, eqb-false}
 use lib.Dec.{ltb, eqb}
 use Rattle.meaning.specs.Agreement.{Agree}
 use Rattle.meaning.specs.Decision.{agree-self}
-use Rattle.meaning.specs.Tests.{and-left, and-right}
+use Rattle.meaning.specs.TestLaws.{and-left, and-right}
 use Rattle.automaton.specs.declared.Automaton.{Automaton}
 use Rattle.automaton.specs.Value.{Valid}
-use Rattle.automaton.specs.View.{view, view-formed}
+use Rattle.automaton.specs.View.{view}
+use Rattle.automaton.specs.ViewLaws.{view-formed}
 use Rattle.search.specs.declared.Search.{Search}
 use Rattle.search.specs.Rule.{below, fresh, found, risen, ended, none}
 use Rattle.search.specs.Calls.{Verdict}

@@ -50,22 +50,22 @@ module _ {s : Search} {v : Verdict} {r : Reply} where
   goes-on {t} h e m = moved (ap (λ x. x .answer) e) h t (ap (λ x. x .search) e) m
 
   step-told : {t : Search} → Moves s v t → reply.Told s t r → Step s v r
-  step-told m (reply.outside i e) = turned-down e
-  step-told m (reply.finished i h e) = over e
-  step-told m (reply.taken i h e) = goes-on h e m
+  step-told m (reply.outside i e c) = turned-down e
+  step-told m (reply.finished i h e c) = over e
+  step-told m (reply.taken i h e c) = goes-on h e m
 
 pub step : (s : Search) (v : Verdict) (r : Reply) → Meets s v r → Step s v r
 step s (table t p q l m) r k = go k
   where
     go : reply.Found s t p q l m r → Step s (table t p q l m) r
-    go (reply.short-prefix h (e, x, y)) = turned-down e
-    go (reply.short-loop h g (e, x, y)) = turned-down e
-    go (reply.outside h g (e, x, y)) = turned-down e
-    go (reply.finished h i w g (e, x, y)) = over e
-    go (reply.dimensions h j g (e, x, y)) = turned-down e
-    go (reply.letters h j a g (e, x, y)) = turned-down e
+    go (reply.short-prefix h (e, x, y, c)) = turned-down e
+    go (reply.short-loop h g (e, x, y, c)) = turned-down e
+    go (reply.outside h g (e, x, y, c)) = turned-down e
+    go (reply.finished h i w g (e, x, y, c)) = over e
+    go (reply.dimensions h j g (e, x, y, c)) = turned-down e
+    go (reply.letters h j a g (e, x, y, c)) = turned-down e
     go (reply.differ h j a g f d) = turned-down (d .says)
-    go (reply.taken h j a g f (e, x, y)) =
+    go (reply.taken h j a g f (e, x, y, c)) =
         goes-on (j .unfinished) e (by-table (record { valid = j .valid; asked-for = a; same-propositions = g; agrees = f }))
 step s none r k = step-told by-none k
 step s unknown r k = step-told by-unknown k

@@ -3,12 +3,15 @@ use mathlib.Core.Path.{_≡_}
 use mathlib.Core.Logic.{_≢_}
 use mathlib.Core.Bool.{true, false}
 use mathlib.Core.List.{List}
+use mathlib.Core.Option.{Option, none, some}
 use Prim.Native.Nat.{ℕ, _≤_, _<_}
 use lib.ListN.{length}
 use Rattle.meaning.specs.Agreement.{Agree}
 use Rattle.automaton.specs.declared.Automaton.{Automaton}
+use Rattle.automaton.specs.declared.refusal.Code.{Code}
 use Rattle.automaton.specs.declared.refusal.Refusal.{Refusal}
 use Rattle.automaton.specs.declared.refusal.Refusal.the-variants.{Outside, Dimensions, Differ, Short, Propositions}
+use Rattle.automaton.specs.Refused.{row, codeOf}
 use Rattle.automaton.specs.Value.{Valid, empty}
 use Rattle.automaton.specs.View.{view}
 use Rattle.compare.specs.declared.Comparison.{Comparison}
@@ -25,6 +28,12 @@ pub record InRange (s : Search) : Type 0 where
   pub best : Valid (s .best)
   pub n-le : s .n ≤ 8
   pub m-le : s .m ≤ 4
+
+-- "Returned (number, a, b)": what an answer returns, or none where nothing is turned down
+abbrev pub returned : Answer → Option Code
+returned Taken = none
+returned Finished = none
+returned (Refused f) = some (codeOf f)
 
 abbrev pub replied : Answer → Search → Reply
 replied answer s = record { answer = answer; search = s }
@@ -49,16 +58,16 @@ nothing = record {
 
 -- it is taken also where it is finished at the start: that stands in the state
 pub data Started (a : Automaton) (r : Reply) : Type 0 where
-  outside : ¬ Valid a → r ≡ refused Outside nothing → Started a r
-  taken : Valid a → r ≡ replied Taken (fresh a) → Started a r
+  outside : ¬ Valid a → r ≡ refused Outside nothing → returned (r .answer) ≡ some (row 4 0 0) → Started a r
+  taken : Valid a → r ≡ replied Taken (fresh a) → returned (r .answer) ≡ none → Started a r
 
 -- ---- "none" and "unknown"
 
 -- "A finished search, after 13 and 4, says so and no longer changes"; otherwise the rule gives the next state
 pub data Told (s next : Search) (r : Reply) : Type 0 where
-  outside : ¬ InRange s → r ≡ refused Outside s → Told s next r
-  finished : InRange s → s .finished ≡ true → r ≡ replied Finished s → Told s next r
-  taken : InRange s → s .finished ≡ false → r ≡ replied Taken next → Told s next r
+  outside : ¬ InRange s → r ≡ refused Outside s → returned (r .answer) ≡ some (row 4 0 0) → Told s next r
+  finished : InRange s → s .finished ≡ true → r ≡ replied Finished s → returned (r .answer) ≡ none → Told s next r
+  taken : InRange s → s .finished ≡ false → r ≡ replied Taken next → returned (r .answer) ≡ none → Told s next r
 
 -- ---- a found table
 
@@ -75,27 +84,30 @@ pub record AskedFor (s : Search) (table : Automaton) : Type 0 where
 
 -- what becomes of a found table: the reply, and the buffers before and after
 module _ (s : Search) (table : Automaton) (prefix prefix-after loop loop-after : List ℕ) (r : Reply) where
-  -- a reply that leaves both buffers as they were
-  abbrev pub Untouched : Reply → Type 0
-  Untouched x = (r ≡ x) × (prefix-after ≡ prefix) × (loop-after ≡ loop)
+  -- a reply that leaves both buffers as they were, with what it returns
+  abbrev pub Untouched : Reply → Option Code → Type 0
+  Untouched x c = (r ≡ x) × (prefix-after ≡ prefix) × (loop-after ≡ loop) × (returned (r .answer) ≡ c)
 
   -- 12, with the comparison's word in the buffers
   pub record Differs : Type 0 where
     pub comparison : Comparison
     pub shown : Shown table (s .reference) prefix prefix-after loop loop-after comparison
     pub says : r ≡ refused (Differ (length (shown .x)) (length (shown .y))) s
+    pub number : returned (r .answer) ≡ some (row 12 (length (shown .x)) (length (shown .y)))
 
   -- "Order: 13 (prefix before loop), 4 for handed values", then "finished", 8 "with its own two counts", and the comparison again: 14, 12. Each row's
   -- conditions shut out the other rows, so that one reply is due on each input.
   pub data Found : Type 0 where
-    short-prefix : length prefix < 256 → Untouched (refused (Short 256 (length prefix)) s) → Found
-    short-loop : 256 ≤ length prefix → length loop < 1280 → Untouched (refused (Short 1280 (length loop)) s) → Found
-    outside : Room prefix loop → ¬ (InRange s × Valid table) → Untouched (refused Outside s) → Found
-    finished : Room prefix loop → InRange s → Valid table → s .finished ≡ true → Untouched (replied Finished s) → Found
-    dimensions : Room prefix loop → Admitted s table → ¬ AskedFor s table → Untouched (refused (Dimensions (table .states) (table .sets)) s) → Found
+    short-prefix : length prefix < 256 → Untouched (refused (Short 256 (length prefix)) s) (some (row 13 256 (length prefix))) → Found
+    short-loop : 256 ≤ length prefix → length loop < 1280 → Untouched (refused (Short 1280 (length loop)) s) (some (row 13 1280 (length loop))) → Found
+    outside : Room prefix loop → ¬ (InRange s × Valid table) → Untouched (refused Outside s) (some (row 4 0 0)) → Found
+    finished : Room prefix loop → InRange s → Valid table → s .finished ≡ true → Untouched (replied Finished s) none → Found
+    dimensions : Room prefix loop → Admitted s table → ¬ AskedFor s table
+        → Untouched (refused (Dimensions (table .states) (table .sets)) s) (some (row 8 (table .states) (table .sets))) → Found
     letters : Room prefix loop → Admitted s table → AskedFor s table → table .propositions ≢ s .reference .propositions
-        → Untouched (refused (Propositions (table .propositions) (s .reference .propositions)) s) → Found
+        → Untouched (refused (Propositions (table .propositions) (s .reference .propositions)) s) (some (row 14 (table .propositions) (s .reference .propositions)))
+        → Found
     differ : Room prefix loop → Admitted s table → AskedFor s table → table .propositions ≡ s .reference .propositions
         → ¬ Agree (view table) (view (s .reference)) → Differs → Found
     taken : Room prefix loop → Admitted s table → AskedFor s table → table .propositions ≡ s .reference .propositions
-        → Agree (view table) (view (s .reference)) → Untouched (replied Taken (found table s)) → Found
+        → Agree (view table) (view (s .reference)) → Untouched (replied Taken (found table s)) none → Found

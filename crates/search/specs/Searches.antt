@@ -164,7 +164,7 @@ module _ {a : Automaton} (v : Valid a) (cs : List Call) (k : Calls (fresh a) cs)
       }
 
 pub searches : {a : Automaton} {r : Reply} → Valid a → Started a r → (cs : List Call) → Calls (r .search) cs → Searches a cs (after (r .search) cs)
-searches v (reply.outside n e) cs k = absurd (n v)
-searches {a} v (reply.taken w e) cs k =
+searches v (reply.outside n e c) cs k = absurd (n v)
+searches {a} v (reply.taken w e c) cs k =
     let q = ap (λ r. r .search) e in
     subst (λ s. Searches a cs (after s cs)) (sym q) (fresh-searches v cs (subst (λ s. Calls s cs) q k))

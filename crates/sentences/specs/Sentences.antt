@@ -5,7 +5,7 @@ use Prim.Native.String.{String}
 use Rattle.automaton.specs.declared.refusal.Refusal.{Refusal}
 use Rattle.automaton.specs.declared.refusal.Refusal.the-variants.{Form, Size, Item, Undeclared, Outside, Body, SecondEdge, NoEdge, Dimensions, SolverForm, Literal, NoStep, Differ, Short, Propositions}
 use Rattle.decimal.specs.Decimal.{decimal}
-use Rattle.hoa_text.specs.Basics.{bytes}
+use Rattle.automaton.specs.Bytes.{bytes}
 use Rattle.text_places.specs.declared.Place.{Place}
 
 -- words with two numbers between them

@@ -1,14 +1,13 @@
 // Why something was turned down, in words.
 use automaton::refusal::Refusal;
-use hoa_write::pieces::word;
-use report::pieces::number;
+use pieces::word;
 use text_places::Place;
 ghost use mathlib.Core.List.{_++_};
 ghost use Prim.Native.Nat.{_+_, _≤_};
 ghost use lib.ListN.{length};
 ghost use Rattle.decimal.specs.Decimal.{decimal};
 ghost use Rattle.decimal.specs.Wrote.{Wrote};
-ghost use Rattle.hoa_text.specs.Basics.{bytes};
+ghost use Rattle.automaton.specs.Bytes.{bytes};
 ghost use Rattle.sentences.specs.Sentences.{sentence, placed};
 
 mod say;
@@ -39,12 +38,11 @@ pub fn sentence(x: Refusal, place: Place, out: &mut [u8; SENTENCE]) -> usize
     }
 }
 
-fn bodies(place: Place, state: usize, out: &mut [u8]) -> usize
-    requires { ⌜ 256 ≤ length (now out) ⌝ }
+fn bodies(place: Place, state: usize, out: &mut [u8; SENTENCE]) -> usize
     ensures { λ r. ⌜ Wrote (now (out .entry)) 0 (placed place ": state " ++ (decimal state ++ bytes " has two bodies, or none.\n")) (now (out .exit)) r ⌝ }
 {
     let mut at = placed(place, &say::BODY, out);
-    at = number(state as u64, out, at);
+    at = decimal::write(state as u64, out, at);
     word(&say::BODIES, out, at)
 }
 
@@ -54,14 +52,9 @@ fn placed(place: Place, words: &[u8], out: &mut [u8]) -> usize
     ensures is { λ r. ⌜ Wrote (now (out .entry)) 0 (bytes "line " ++ (decimal (place .line) ++ (bytes ", column " ++ (decimal (place .column) ++ now (words .entry))))) (now (out .exit)) r ⌝ }
     ensures most { λ r. ⌜ r ≤ length (now (words .entry)) + 60 ⌝ }
 {
-    two(
-        &say::LINE,
-        place.line,
-        &say::COLUMN,
-        place.column,
-        words,
-        out,
-    )
+    let line = place.line;
+    let column = place.column;
+    two(&say::LINE, line, &say::COLUMN, column, words, out)
 }
 
 // Words with two numbers between them.
@@ -71,8 +64,8 @@ fn two(front: &[u8], a: usize, middle: &[u8], b: usize, back: &[u8], out: &mut [
     ensures most { λ r. ⌜ r ≤ length (now (front .entry)) + length (now (middle .entry)) + length (now (back .entry)) + 40 ⌝ }
 {
     let mut at = word(front, out, 0);
-    at = number(a as u64, out, at);
+    at = decimal::write(a as u64, out, at);
     at = word(middle, out, at);
-    at = number(b as u64, out, at);
+    at = decimal::write(b as u64, out, at);
     word(back, out, at)
 }

@@ -2,7 +2,7 @@
 use mathlib.Core.List.{List}
 use Prim.Native.Nat.{ℕ}
 use Rattle.shortest.specs.declared.Verdict.{Verdict}
-use Rattle.shortest.specs.declared.Verdict.the-variants.{Same, Differ}
+use Rattle.shortest.specs.declared.Verdict.the-variants.{Same, Differ, Unfit}
 use Rattle.shortest.specs.Order.{Within, Answer}
 
 module _ {Q R : List ℕ → List ℕ → Type 0} (prefix written-prefix cycle written-cycle : List ℕ) where
@@ -19,6 +19,7 @@ module _ {Q R : List ℕ → List ℕ → Type 0} (prefix written-prefix cycle w
     shows = to (F .x) (F .y) (F .shows);
     best = λ u v w. F .best u v (from u v w);
   }
+  answer-same to from Unfit none = none
 
 pub within-same : {p l : ℕ} {Q R : List ℕ → List ℕ → Type 0} → ((x y : List ℕ) → Q x y → R x y) → (x y : List ℕ) → Within p l Q x y → Within p l R x y
 within-same to x y W = record { shows = to x y (W .shows); prefix-fits = W .prefix-fits; loop-fits = W .loop-fits }

@@ -2,7 +2,7 @@
 use mathlib.Core.Path.{_≡_}
 use mathlib.Core.Logic.{_≢_}
 use mathlib.Core.List.{List, [], _∷_}
-use Prim.Native.Nat.{ℕ, _+_, _*_, _<_}
+use Prim.Native.Nat.{ℕ, _+_, _*_, _≤_, _<_}
 use lib.Bits.{bitOr}
 use lib.ListN.{getD}
 use Rattle.meaning.specs.Walk.{run}
@@ -29,12 +29,18 @@ pub record Shows (next-A marks-A next-B marks-B H : List ℕ) (L s t : ℕ) (x y
   pub closed-B : run (entry next-B) (run (entry next-B) t x) y ≡ run (entry next-B) t x
   pub hit : entry H (met next-A marks-A (run (entry next-A) s x) y) (met next-B marks-B (run (entry next-B) t x) y) ≢ 0
 
--- each entry is below 16
-abbrev pub Below16 : List ℕ → Type 0
-Below16 table = (q l : ℕ) → q < 16 → l < 16 → entry table q l < 16
+-- each entry is below c
+abbrev pub Below : ℕ → List ℕ → Type 0
+Below c table = (q l : ℕ) → q < 16 → l < 16 → entry table q l < c
 
--- an automaton with states and sets of marks below 16
+-- an automaton with states and sets of marks below 16: "1 to 16" states, "0 to 4" sets
 pub record InRange (next marks : List ℕ) (start : ℕ) : Type 0 where
-  pub next-lt : Below16 next
-  pub marks-lt : Below16 marks
+  pub next-lt : Below 16 next
+  pub marks-lt : Below 16 marks
   pub start-lt : start < 16
+
+-- the tables and the starts are those of two automata, over at most 16 letters
+pub record Fit (next-A marks-A next-B marks-B : List ℕ) (L s t : ℕ) : Type 0 where
+  pub first : InRange next-A marks-A s
+  pub second : InRange next-B marks-B t
+  pub letters : L ≤ 16

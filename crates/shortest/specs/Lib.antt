@@ -8,7 +8,9 @@ pub mod Search
 pub mod SearchWords
 pub mod SearchComplete
 pub mod ReadBack
+pub mod Sizes
 pub mod Graph
+pub mod Entries
 pub mod Packing
 pub mod Seen
 pub mod Workspace

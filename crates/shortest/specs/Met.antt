@@ -5,18 +5,19 @@ use mathlib.Core.Bool.{_||_}
 use Prim.Native.Nat.{ℕ, _≤_, _<_}
 use native.Mathlib.Omega.{arith}
 use lib.Bits.{or-lt}
-use Rattle.meaning.specs.BitSet.{has, has-or, has-zero}
+use Rattle.meaning.specs.BitSet.{has}
+use Rattle.meaning.specs.BitSetLaws.{has-or, has-zero}
 use Rattle.meaning.specs.Walk.{run, meets}
 use Rattle.meaning.specs.Agreement.{Over}
-use Rattle.shortest.specs.Difference.{entry, met, Below16}
+use Rattle.shortest.specs.Difference.{entry, met, Below}
 
 -- it leads to states, and meets sets of marks, below 16
 module _ {L : ℕ} where
-  pub run-lt : (next : List ℕ) → Below16 next → L ≤ 16 → (w : List ℕ) (q : ℕ) → q < 16 → Over L w → run (entry next) q w < 16
+  pub run-lt : (next : List ℕ) → Below 16 next → L ≤ 16 → (w : List ℕ) (q : ℕ) → q < 16 → Over L w → run (entry next) q w < 16
   run-lt next hn hL [] q h o = h
   run-lt next hn hL (l ∷ w) q h o = run-lt next hn hL w (entry next q l) (hn q l h (omega (arith, o .0))) (o .1)
 
-  pub met-lt : (next marks : List ℕ) → Below16 next → Below16 marks → L ≤ 16 → (w : List ℕ) (q : ℕ) → q < 16 → Over L w → met next marks q w < 16
+  pub met-lt : (next marks : List ℕ) → Below 16 next → Below 16 marks → L ≤ 16 → (w : List ℕ) (q : ℕ) → q < 16 → Over L w → met next marks q w < 16
   met-lt next marks hn hm hL [] q h o = omega arith
   met-lt next marks hn hm hL (l ∷ w) q h o =
       let hl : l < 16 = omega (arith, o .0) in

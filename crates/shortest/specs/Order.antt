@@ -5,7 +5,7 @@ use mathlib.Core.List.{List, [], _∷_, _++_}
 use Prim.Native.Nat.{ℕ, _+_, _≤_, _<_}
 use lib.ListN.{length, drop}
 use Rattle.shortest.specs.declared.Verdict.{Verdict}
-use Rattle.shortest.specs.declared.Verdict.the-variants.{Same, Differ}
+use Rattle.shortest.specs.declared.Verdict.the-variants.{Same, Differ, Unfit}
 
 -- "smaller at the first difference", of two words of one length
 abbrev pub Smaller : List ℕ → List ℕ → Type 0
@@ -38,7 +38,13 @@ pub record Found (Q : List ℕ → List ℕ → Type 0) (prefix written-prefix c
   pub shows : Q x y
   pub best : (u v : List ℕ) → Q u v → Precedes x y u v
 
--- the answer, and the two buffers before and after
+-- the answer to a search, which is made of two automata only, and the two buffers before and after
 abbrev pub Answer : (List ℕ → List ℕ → Type 0) → List ℕ → List ℕ → List ℕ → List ℕ → Verdict → Type 0
 Answer Q prefix written-prefix cycle written-cycle Same = ((x y : List ℕ) → ¬ Q x y) × (written-prefix ≡ prefix) × (written-cycle ≡ cycle)
 Answer Q prefix written-prefix cycle written-cycle (Differ p l) = Found Q prefix written-prefix cycle written-cycle p l
+Answer Q prefix written-prefix cycle written-cycle Unfit = ⊥
+
+-- the answer on all input: tables that are not those of two automata are unfit, and both buffers as they were
+pub record Answered (Fits : Type 0) (Q : List ℕ → List ℕ → Type 0) (prefix written-prefix cycle written-cycle : List ℕ) (r : Verdict) : Type 0 where
+  pub unfit : ¬ Fits → (r ≡ Unfit) × (written-prefix ≡ prefix) × (written-cycle ≡ cycle)
+  pub searched : Fits → Answer (Within (length prefix) (length cycle) Q) prefix written-prefix cycle written-cycle r

@@ -8,7 +8,7 @@ use lib.Bits.{bitOr, or-lt, or-comm, or-block, or-zero-l, or-zero-r}
 use Rattle.meaning.specs.Walk.{run}
 use Rattle.meaning.specs.Agreement.{Over}
 use Rattle.shortest.specs.Graph.{at, succ, Hit, HitLoop, HitLasso}
-use Rattle.shortest.specs.Difference.{entry, met, Below16, InRange, Shows}
+use Rattle.shortest.specs.Difference.{entry, met, Below, Fit, Shows}
 use Rattle.shortest.specs.declared.Verdict.{Verdict}
 use Rattle.shortest.specs.Order.{Within, Answer}
 use Rattle.shortest.specs.Answers.{answer-same, within-same}
@@ -38,7 +38,7 @@ step-at D q l p m k e hm hk =
     let y : c % 256 ≡ 0 * 256 + k = omega arith in
     ap₂ bitOr (ap (at D) x ∙ e) y ∙ or-block 8 p 0 m k hm hk ∙ ap (λ z. z * 256 + bitOr m k) (or-zero-r p)
 
-module _ {na ma nb mb P D : List ℕ} {L : ℕ} (T : Tables na ma nb mb P D 4096) (NA : Below16 na) (MA : Below16 ma) (NB : Below16 nb) (MB : Below16 mb) (hL : L ≤ 16) where
+module _ {na ma nb mb P D : List ℕ} {L : ℕ} (T : Tables na ma nb mb P D 4096) (NA : Below 16 na) (MA : Below 16 ma) (NB : Below 16 nb) (MB : Below 16 mb) (hL : L ≤ 16) where
   module _ (a b l : ℕ) (ha : a < 16) (hb : b < 16) (hl : l < 16) where
     plain-step : succ P (code a b 0 0) l ≡ code (entry na a l) (entry nb b l) 0 0
     plain-step =
@@ -123,13 +123,13 @@ module _ {na ma nb mb P D : List ℕ} {L : ℕ} (T : Tables na ma nb mb P D 4096
         record { over-x = ox; over-y = W .over; some = W .some; closed-A = ca; closed-B = cb; hit = h }
 
 -- ---- from the words of the product to those of the two automata
-pub product-answer : {na ma nb mb P D : List ℕ} {L s t root : ℕ} → Tables na ma nb mb P D 4096 → InRange na ma s → InRange nb mb t → L ≤ 16 → root ≡ (s * 16 + t) * 256
+pub product-answer : {na ma nb mb P D : List ℕ} {L s t root : ℕ} → Tables na ma nb mb P D 4096 → Fit na ma nb mb L s t → root ≡ (s * 16 + t) * 256
     → (H : List ℕ) (p l : ℕ) (prefix written-prefix cycle written-cycle : List ℕ) (r : Verdict) → Answer (Within p l (HitLasso P D H L root)) prefix written-prefix cycle written-cycle r
     → Answer (Within p l (Shows na ma nb mb H L s t)) prefix written-prefix cycle written-cycle r
-product-answer {P = P} {D} {L} {s} {t} {root} T A B hL e H p l prefix written-prefix cycle written-cycle =
+product-answer {P = P} {D} {L} {s} {t} {root} T F e H p l prefix written-prefix cycle written-cycle =
     answer-same prefix written-prefix cycle written-cycle
-    (within-same (λ x y Q. lasso-shows T (A .next-lt) (A .marks-lt) (B .next-lt) (B .marks-lt) hL (A .start-lt) (B .start-lt) x y (subst (λ v. HitLasso P D H L v x y) at-start Q)))
-    (within-same (λ x y Q. subst (λ v. HitLasso P D H L v x y) (sym at-start) (shows-lasso T (A .next-lt) (A .marks-lt) (B .next-lt) (B .marks-lt) hL (A .start-lt) (B .start-lt) x y Q)))
+    (within-same (λ x y Q. lasso-shows T (F .first .next-lt) (F .first .marks-lt) (F .second .next-lt) (F .second .marks-lt) (F .letters) (F .first .start-lt) (F .second .start-lt) x y (subst (λ v. HitLasso P D H L v x y) at-start Q)))
+    (within-same (λ x y Q. subst (λ v. HitLasso P D H L v x y) (sym at-start) (shows-lasso T (F .first .next-lt) (F .first .marks-lt) (F .second .next-lt) (F .second .marks-lt) (F .letters) (F .first .start-lt) (F .second .start-lt) x y Q)))
   where
     at-start : root ≡ code s t 0 0
     at-start = e ∙ omega arith

@@ -4,9 +4,9 @@ use mathlib.Core.List.{List}
 use Prim.Native.Nat.{ℕ, _+_, _*_, _/_, _%_, _≤_, _<_}
 use native.Mathlib.Omega.{arith}
 use lib.ListN.{length, set, length-set}
-use Rattle.meaning.specs.Counting.{filled-next}
+use Rattle.meaning.specs.CountingLaws.{filled-next}
 use Rattle.shortest.specs.Graph.{at}
-use Rattle.shortest.specs.Difference.{Below16}
+use Rattle.shortest.specs.Difference.{Below}
 
 -- the entries of two tables for the number i of a pair of states and a letter, as one number
 abbrev pub pairAt : List ℕ → List ℕ → ℕ → ℕ
@@ -19,7 +19,7 @@ pub record Tables (next-A marks-A next-B marks-B plain table : List ℕ) (n : �
   pub plain-at : (i : ℕ) → i < n → at plain i ≡ pairAt next-A next-B i * 256
   pub table-at : (i : ℕ) → i < n → at table i ≡ pairAt next-A next-B i * 256 + pairAt marks-A marks-B i
 
-pub pair-lt : (A B : List ℕ) → Below16 A → Below16 B → (i : ℕ) → i < 4096 → pairAt A B i < 256
+pub pair-lt : (A B : List ℕ) → Below 16 A → Below 16 B → (i : ℕ) → i < 4096 → pairAt A B i < 256
 pair-lt A B a b i h = omega (arith, a (i / 256) (i % 16) (omega arith) (omega arith), b (i / 16 % 16) (i % 16) (omega arith) (omega arith))
 
 pub tables-none : {na ma nb mb plain table : List ℕ} → length plain ≡ 4096 → length table ≡ 4096 → Tables na ma nb mb plain table 0

@@ -7,7 +7,8 @@ use Prim.Native.Nat.{ℕ, _+_, _*_, _≤_, _<_}
 use native.Mathlib.Decide.{decLt, ℕ-discrete}
 use native.Mathlib.Omega.{arith}
 use lib.ListN.{length, length-append}
-use Rattle.meaning.specs.Walk.{run, run-append}
+use Rattle.meaning.specs.Walk.{run}
+use Rattle.meaning.specs.WalkLaws.{run-append}
 use Rattle.meaning.specs.Agreement.{Over}
 use Rattle.shortest.specs.WordOrder.{Earlier, NotLater, earlier-trans, not-later-length, not-later-snoc, prefix-not-later}
 use Rattle.shortest.specs.Search.{Places, parent, letter, Followed, Search}

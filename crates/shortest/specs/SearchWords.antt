@@ -7,7 +7,8 @@ use native.Mathlib.Nat.{le-refl}
 use native.Mathlib.Decide.{decLt, ℕ-discrete}
 use native.Mathlib.Omega.{arith}
 use lib.ListN.{length, length-append}
-use Rattle.meaning.specs.Walk.{run, run-append}
+use Rattle.meaning.specs.Walk.{run}
+use Rattle.meaning.specs.WalkLaws.{run-append}
 use Rattle.meaning.specs.Agreement.{Over}
 use Rattle.meaning.specs.LassoWord.{over-append}
 use Rattle.shortest.specs.WordOrder.{Earlier, earlier-length, earlier-snoc, last-earlier}

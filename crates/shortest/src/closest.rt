@@ -1,4 +1,5 @@
 // The shortest loop at a node that is a hit, and of the shortest the one that is smaller at the first difference.
+use crate::MARKED;
 use crate::places;
 use crate::search;
 use crate::word;
@@ -20,7 +21,16 @@ pub fn loop_length(
     ensures { λ r. ⌜ LoopLength (now (table .entry)) (now (hits .entry)) letters node bound r × (r < 2 ^ 32) ⌝ }
     ensures { λ r. ⌜ Ready (now (table .entry)) (now (hits .entry)) (now (seen .exit)) (now (places .exit)) letters ⌝ }
 {
-    let stop = search::search(table, hits, seen, places, letters, node, node / 256, bound);
+    let stop = search::search(
+        table,
+        hits,
+        seen,
+        places,
+        letters,
+        node,
+        node / MARKED,
+        bound,
+    );
     let hit = stop.hit;
     if hit == stop.count {
         return 0;
@@ -48,7 +58,7 @@ pub fn write_loop(
         places,
         letters,
         node,
-        node / 256,
+        node / MARKED,
         out.len(),
     );
     let hit = stop.hit;

@@ -9,7 +9,11 @@ ghost use mathlib.Core.Path.{_≡_};
 ghost use lib.ListN.{length};
 ghost use Rattle.shortest.specs.Order.{Within, Answer};
 ghost use Rattle.shortest.specs.Graph.{HitLasso};
+ghost use Rattle.shortest.specs.Sizes.{placeCount, stepCount};
 ghost use Rattle.shortest.specs.Workspace.{Ready};
+
+// A pair that no node has.
+const NO_PAIR: u16 = crate::PAIRS as u16;
 
 // The word to the node goes by the table `plain`, and the loop by `table`. It is written into `prefix` and `cycle`, and only words
 // that fit them are looked for. `seen`, `outer` and `inner` are working space.
@@ -25,13 +29,13 @@ pub fn first_lasso(
     prefix: &mut [u8],
     cycle: &mut [u8],
 ) -> Verdict
-    requires { ⌜ Ready (now plain) (now hits) (now seen) (now outer) letters × (length (now table) ≡ 4096) × (length (now inner) ≡ 65538) ⌝ }
+    requires { ⌜ Ready (now plain) (now hits) (now seen) (now outer) letters × (length (now table) ≡ stepCount) × (length (now inner) ≡ placeCount) ⌝ }
     ensures { λ r. ⌜ Answer (Within (length (now (prefix .entry))) (length (now (cycle .entry))) (HitLasso (now (plain .entry)) (now (table .entry)) (now (hits .entry)) letters root))
         (now (prefix .entry)) (now (prefix .exit)) (now (cycle .entry)) (now (cycle .exit)) r ⌝ }
 {
     let most = prefix.len();
     let bound = cycle.len();
-    let reached = search::search(plain, hits, seen, outer, letters, root, 256, most);
+    let reached = search::search(plain, hits, seen, outer, letters, root, NO_PAIR, most);
     let count = reached.count;
     let best = choice::choose(
         table,

@@ -1,11 +1,13 @@
 // A place of a search as one number: its depth, the edge by which it was found, and its node.
+use automaton::Automaton;
 ghost use mathlib.Core.Path.{_≡_};
 ghost use Prim.Native.Nat.{_^_, _<_};
 ghost use Rattle.shortest.specs.Packing.{pack, nodeOf, edgeOf, depthOf};
 
-const NODES: u64 = 65536;
+const NODES: u64 = crate::NODES as u64;
 
-const EDGES: u64 = 1048576;
+// Edges: the place that an edge leaves, and its letter.
+const EDGES: u64 = (crate::NODES * Automaton::LETTERS) as u64;
 
 pub fn place(node: u16, edge: usize, depth: usize) -> u64
     requires { ⌜ (edge < 2 ^ 32) × (depth < 2 ^ 20) ⌝ }

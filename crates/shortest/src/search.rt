@@ -1,5 +1,8 @@
 // Breadth-first search in a graph that a table gives, until a hit is found or no word of the allowed length leads to a new node.
+use crate::HITS;
+use crate::MARKED;
 use crate::places;
+use automaton::Automaton;
 ghost use mathlib.Core.Path.{_≡_};
 ghost use mathlib.Core.Logic.{_↔_};
 ghost use mathlib.Core.Bool.{true};
@@ -7,6 +10,7 @@ ghost use Prim.Native.Nat.{ℕ, _+_, _-_, _*_, _^_, _<_, _≤_};
 ghost use lib.ListN.{length, set};
 ghost use Rattle.shortest.specs.Graph.{at, succ, Hit};
 ghost use Rattle.shortest.specs.Packing.{pack, nodeOf};
+ghost use Rattle.shortest.specs.Sizes.{hitCount, stepCount, nodeCount};
 ghost use Rattle.shortest.specs.Seen.{Clear, SeenAt};
 ghost use Rattle.shortest.specs.Workspace.{Ready};
 ghost use Rattle.shortest.specs.State.{State};
@@ -19,8 +23,8 @@ pub struct Stop {
     pub count: usize,
 }
 
-// The search from the root by words of at most `bound` letters, which stops at the first hit with the given pair. No node has the pair
-// 256: with it all nodes are found.
+// The search from the root by words of at most `bound` letters, which stops at the first hit with the given pair. With one that no node
+// has all nodes are found.
 pub fn search(
     table: &[u16],
     hits: &[u8],
@@ -53,7 +57,7 @@ pub fn explore(
     bound: usize,
 ) -> Stop
     requires { ⌜ State (now table) (now seen) (now places) letters (nodeOf (at (now places) 0)) 1 0 0 ⌝ }
-    requires { ⌜ length (now hits) ≡ 256 ⌝ }
+    requires { ⌜ length (now hits) ≡ hitCount ⌝ }
     ensures { λ r. ⌜ Explored (now (table .entry)) (now (hits .entry)) (now (seen .exit)) (now (places .exit)) letters (nodeOf (at (now (places .entry)) 0)) pair bound (r .count) (r .hit) ⌝ }
 {
     let mut n = 1;
@@ -94,7 +98,14 @@ pub fn expand(
     let mut letter = 0;
     while letter < letters {
         let next = successor(table, node, letter);
-        n = enter(seen, places, next, here * 16 + letter, depth, n);
+        n = enter(
+            seen,
+            places,
+            next,
+            here * Automaton::LETTERS + letter,
+            depth,
+            n,
+        );
         letter += 1;
     }
     n
@@ -102,10 +113,10 @@ pub fn expand(
 
 // The node that a letter leads to, with the marks of the step added.
 pub fn successor(table: &[u16], node: u16, letter: usize) -> u16
-    requires { ⌜ (length (now table) ≡ 4096) × (letter < 16) ⌝ }
+    requires { ⌜ (length (now table) ≡ stepCount) × (letter < 16) ⌝ }
     ensures { λ r. ⌜ r ≡ succ (now (table .entry)) node letter ⌝ }
 {
-    table[node as usize / 256 * 16 + letter] | (node % 256)
+    table[node as usize / HITS * Automaton::LETTERS + letter] | (node % MARKED)
 }
 
 // The node stands at the place n, which counts if the node is new; the number of places then. There is no branch, since whether
@@ -118,7 +129,7 @@ pub fn enter(
     depth: usize,
     n: usize,
 ) -> usize
-    requires { ⌜ (length (now seen) ≡ 65536) × (n < length (now places)) × (at (now seen) node ≤ 1) ⌝ }
+    requires { ⌜ (length (now seen) ≡ nodeCount) × (n < length (now places)) × (at (now seen) node ≤ 1) ⌝ }
     requires { ⌜ (edge < 2 ^ 32) × (depth < 2 ^ 20) × (n < 2 ^ 32) ⌝ }
     ensures { λ r. ⌜ (now (seen .exit) ≡ set (now (seen .entry)) node 1)
         × (now (places .exit) ≡ set (now (places .entry)) n (pack node edge depth)) × (r ≡ n + 1 - at (now (seen .entry)) node) ⌝ }
@@ -131,7 +142,7 @@ pub fn enter(
 
 // The first place of a hit from `start` on, or `end` where there is none before it.
 pub fn first_hit(places: &[u64], hits: &[u8], pair: u16, start: usize, end: usize) -> usize
-    requires { ⌜ (start ≤ end) × (end ≤ length (now places)) × (length (now hits) ≡ 256) ⌝ }
+    requires { ⌜ (start ≤ end) × (end ≤ length (now places)) × (length (now hits) ≡ hitCount) ⌝ }
     ensures { λ r. ⌜ First (now (places .entry)) (now (hits .entry)) pair start end r ⌝ }
 {
     let mut k = start;
@@ -146,13 +157,13 @@ pub fn first_hit(places: &[u64], hits: &[u8], pair: u16, start: usize, end: usiz
 
 // Whether a node has the pair, and marks at which the table of hits is not 0.
 pub fn is_hit(hits: &[u8], pair: u16, node: u16) -> bool
-    requires { ⌜ length (now hits) ≡ 256 ⌝ }
+    requires { ⌜ length (now hits) ≡ hitCount ⌝ }
     ensures { λ r. ⌜ (r ≡ true) ↔ Hit (now (hits .entry)) pair node ⌝ }
 {
-    if node / 256 != pair {
+    if node / MARKED != pair {
         return false;
     }
-    hits[(node % 256) as usize] != 0
+    hits[(node % MARKED) as usize] != 0
 }
 
 // The nodes at the places from 1 on count as not seen again.

@@ -1,5 +1,6 @@
 // The word that leads to a place, read back from edge to edge.
 use crate::places;
+use automaton::Automaton;
 ghost use mathlib.Core.Path.{_≡_};
 ghost use mathlib.Core.List.{_++_};
 ghost use Prim.Native.Nat.{_≤_};
@@ -18,7 +19,7 @@ pub fn write_word(places: &[u64], place: usize, depth: usize, out: &mut [u8])
     while 0 < left {
         left -= 1;
         let edge = places::edge(places[k]);
-        out[left] = (edge % 16) as u8;
-        k = edge / 16;
+        out[left] = (edge % Automaton::LETTERS) as u8;
+        k = edge / Automaton::LETTERS;
     }
 }

@@ -11,6 +11,7 @@ use Rattle.variables.specs.Limits.{sizes-fit}
 use Rattle.solution.specs.declared.Reader.{Reader}
 use Rattle.solution.specs.declared.Reply.{Reply}
 use Rattle.solution.specs.Calls.{InRange, Called, refusal}
+use Rattle.solution.specs.Answered.{called, called-text}
 use Rattle.solution.specs.Objection.{state, call, Judged}
 
 module _ (a : Automaton) (n m : ℕ) (r : Reader) where
@@ -23,10 +24,9 @@ module _ (a : Automaton) (n m : ℕ) (r : Reader) where
   judged-fits (h, v, d, e) = subst Fitting (sym e) (sizes-fit v d)
 
   pub called-read : {z : Sizes} {read e : Reply} → Judged a n m r (Of z) → e ≡ read → Called a n m r read e
-  called-read (h, v, d, s) q = record { automaton = λ k. absurd (k v); state = λ k. absurd (k h); sizes = λ v s k. absurd (k d); text = λ v s z. q }
+  called-read (h, v, d, s) q = called-text v h d q
 
   pub called-refused : {f : Refusal} {read e : Reply} → Judged a n m r (Refused f) → e ≡ refusal f r → Called a n m r read e
-  called-refused (state k) q = record { automaton = λ v. q; state = λ s. q; sizes = λ v s z. absurd (k s); text = λ v s z. absurd (k s) }
-  called-refused (call h (outside k)) q = record { automaton = λ v. q; state = λ s. q; sizes = λ v s z. absurd (k v); text = λ v s z. absurd (k v) }
-  called-refused (call h (dimensions v k)) q =
-      record { automaton = λ i. absurd (i v); state = λ s. absurd (s h); sizes = λ v s z. q; text = λ v s z. absurd (k z) }
+  called-refused (state k) q = called (λ v. q) (λ s. q) (λ v s z. absurd (k s)) (λ v s z. absurd (k s))
+  called-refused (call h (outside k)) q = called (λ v. q) (λ s. q) (λ v s z. absurd (k v)) (λ v s z. absurd (k v))
+  called-refused (call h (dimensions v k)) q = called (λ i. absurd (i v)) (λ s. absurd (s h)) (λ v s z. q) (λ v s z. absurd (k z))

@@ -19,6 +19,7 @@ use Rattle.solution.specs.declared.scan.Verdict.the-variants.{Unstated, 
 use Rattle.solution.specs.SolverText.{Seen, Outcome, gives, refused, form, unfit, followed, lf, blank, digit, digit19, split, past, nothing, skipped, word, unstated, satisfiable, with-verdict, spelled, verdicts, blanks, verdictLine, literalOf, mentioned, settled, digits, number, token, tokens, line, judged, lines, fenced, outcome}
 use Rattle.solution.specs.Machine.{scan, at-rest, unfitting, atStart, inComment, afterS, beforeWord, spelt, follows, turns, nextLetter, wordDone, inWord, afterWord, afterToken, firstByte, tokenByte, beforeToken, afterMinus, grow, settle, ending, inDigits, byPlace, refusedAt, atLimit, step, run, judge, judgeWord, endAt, end, fresh}
 use Rattle.solution.specs.Cases.{by}
+use Rattle.solution.specs.Staying.{refused-run}
 use Rattle.solution.specs.Literals.{abs-literal}
 use Rattle.solution.specs.Spelling.{left, complete-left, spelled-left, follows-none, turns-none}
 use Rattle.solution.specs.Table.{table, table-new, table-other, table-free, table-fresh}
@@ -172,27 +173,15 @@ module _ (last kept : ℕ) where
 
     -- ---- a refused text stays refused
 
-    form-step : (b a : ℕ) (v : Verdict) (n : ℕ) (l c : Bool) (f : ℕ) (g : Bool) (w : ℕ) (t : List ℕ)
-        → step last kept (scan BadForm a v n l c f g w) t b ≡ at-rest (scan BadForm a v n l c f g w) t
-    unfolding step byPlace atLimit refusedAt
-    form-step b a v n l c f g w t = by (eqb a 4294967295) (λ e. rw e) (λ e. rw e)
-
-    literal-step : (b a : ℕ) (v : Verdict) (n : ℕ) (l c : Bool) (f : ℕ) (g : Bool) (w : ℕ) (t : List ℕ)
-        → step last kept (scan BadLiteral a v n l c f g w) t b ≡ at-rest (scan BadLiteral a v n l c f g w) t
-    unfolding step byPlace atLimit refusedAt
-    literal-step b a v n l c f g w t = by (eqb a 4294967295) (λ e. rw e) (λ e. rw e)
-
     form-stays : (r : List ℕ) (a : ℕ) (v : Verdict) (n : ℕ) (l c : Bool) (f : ℕ) (g : Bool) (w : ℕ) (t : List ℕ)
         → finalResult (run last kept (at-rest (scan BadForm a v n l c f g w) t) r) ≡ failure (SolverForm a)
-    unfolding finalResult endAt
-    form-stays [] a v n l c f g w t = refl
-    form-stays (b ∷ r) a v n l c f g w t = ap (λ x. finalResult (run last kept x r)) (form-step b a v n l c f g w t) ∙ form-stays r a v n l c f g w t
+    unfolding finalResult endAt refusedAt
+    form-stays r a v n l c f g w t = ap finalResult (refused-run last kept (at-rest (scan BadForm a v n l c f g w) t) refl r)
 
     literal-stays : (r : List ℕ) (a : ℕ) (v : Verdict) (n : ℕ) (l c : Bool) (f : ℕ) (g : Bool) (w : ℕ) (t : List ℕ)
         → finalResult (run last kept (at-rest (scan BadLiteral a v n l c f g w) t) r) ≡ failure (Literal a)
-    unfolding finalResult endAt
-    literal-stays [] a v n l c f g w t = refl
-    literal-stays (b ∷ r) a v n l c f g w t = ap (λ x. finalResult (run last kept x r)) (literal-step b a v n l c f g w t) ∙ literal-stays r a v n l c f g w t
+    unfolding finalResult endAt refusedAt
+    literal-stays r a v n l c f g w t = ap finalResult (refused-run last kept (at-rest (scan BadLiteral a v n l c f g w) t) refl r)
 
     -- ---- one byte b, where it is not byte 4,294,967,295, and then the text r, of which the definition sees q
 
@@ -421,8 +410,8 @@ module _ (last kept : ℕ) where
             by-place AfterMinus = after-minus b r q a e ih v n l f g x w ls alike c
             by-place Digits = in-digits b r q a e ih v n l f g x w ls alike c
             by-place Ended = after-end b r q a e ih v n l f g x w ls alike c
-            by-place BadForm = ap (λ z. finalResult (run last kept z r)) (form-step b a v n l c f g w (table kept ls)) ∙ form-stays r a v n l c f g w (table kept ls)
-            by-place BadLiteral = ap (λ z. finalResult (run last kept z r)) (literal-step b a v n l c f g w (table kept ls)) ∙ literal-stays r a v n l c f g w (table kept ls)
+            by-place BadForm = form-stays (b ∷ r) a v n l c f g w (table kept ls)
+            by-place BadLiteral = literal-stays (b ∷ r) a v n l c f g w (table kept ls)
 
     claim : (r : List ℕ) (a : ℕ) → Claim a r (fenced a r)
     claim [] a p v n l c f g x w ls alike = at-end p a v n l c f g x w ls alike

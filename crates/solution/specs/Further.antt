@@ -6,8 +6,7 @@ use Rattle.automaton.specs.declared.Automaton.{Automaton}
 use Rattle.solution.specs.declared.Reader.{Reader}
 use Rattle.solution.specs.declared.Reply.{Reply}
 use Rattle.solution.specs.Machine.{told, run}
-use Rattle.solution.specs.Calls.{Called, Reads, none, piece, last, kept}
-use Rattle.solution.specs.Pieces.{joined}
+use Rattle.solution.specs.Calls.{Called, Reads, none, piece, joined, last, kept}
 
 pub reads-more : {a : Automaton} {n m : ℕ} {r q : Reader} {us : List (List ℕ)} {e : Reply} (u : List ℕ) → Reads a n m r us q
     → Called a n m q (told (run (last a n m) (kept a n m) q u)) e → Reads a n m r (us ++ (u ∷ [])) (e .reader)

@@ -2,8 +2,11 @@ pub mod SolverText
 pub mod Assignment
 pub mod Machine
 pub mod Calls
+pub mod Answered
 pub mod Objection
 pub mod Cases
+pub mod Staying
+pub mod Standing
 pub mod Literals
 pub mod Counts
 pub mod Range
@@ -12,5 +15,7 @@ pub mod Spelling
 pub mod Table
 pub mod Agreement
 pub mod Pieces
+pub mod Undecided
+pub mod MidText
 pub mod Further
 pub mod Stated

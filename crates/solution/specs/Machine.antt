@@ -1,7 +1,9 @@
 -- DEFINITION: what a reader makes of each byte, at each place of a line, from every state; and of the end of the text. On whole texts it
--- is the definition in `SolverText` (law `Agreement.agrees`).
+-- is the definition in `SolverText` (law `Agreement.agrees`), and before the end it turns down just what that definition turns down
+-- however the text goes on (law `MidText.refused-exactly`).
 use mathlib.Core.Bool.{Bool, true, false, cond, _&&_}
 use mathlib.Core.List.{List, [], _∷_}
+use Prim.Native.Char.{code}
 use Prim.Native.Nat.{ℕ, _+_, _-_, _*_}
 use lib.Dec.{ltb, leb, eqb}
 use lib.IntN.{ℤ, pos, natAbs}
@@ -67,20 +69,20 @@ done s = scan Ended (s .at) (s .verdict) (s .letters) (s .listed) (s .closed) (s
 
 unfoldable pub atStart : Scan → ℕ → Scan
 atStart s b =
-    cond (eqb b 10) (to s Start)
-    (cond (eqb b 99) (to s Comment)
-    (cond (eqb b 115) (cond (unstated (s .verdict)) (to s AfterS) (bad s))
-    (cond (eqb b 118) (list s) (bad s))))
+    cond (eqb b (code "\n")) (to s Start)
+    (cond (eqb b (code "c")) (to s Comment)
+    (cond (eqb b (code "s")) (cond (unstated (s .verdict)) (to s AfterS) (bad s))
+    (cond (eqb b (code "v")) (list s) (bad s))))
 
 unfoldable pub inComment : Scan → ℕ → Scan
-inComment s b = cond (eqb b 10) (to s Start) (cond (ltb b 256) (to s Comment) (bad s))
+inComment s b = cond (eqb b (code "\n")) (to s Start) (cond (ltb b 256) (to s Comment) (bad s))
 
 unfoldable pub afterS : Scan → ℕ → Scan
 afterS s b = cond (blank b) (to s BeforeWord) (bad s)
 
 unfoldable pub beforeWord : Scan → ℕ → Scan
 beforeWord s b =
-    cond (blank b) (to s BeforeWord) (cond (eqb b 83) (spell s Satisfiable 1) (cond (eqb b 85) (spell s Unsatisfiable 1) (bad s)))
+    cond (blank b) (to s BeforeWord) (cond (eqb b (code "S")) (spell s Satisfiable 1) (cond (eqb b (code "U")) (spell s Unsatisfiable 1) (bad s)))
 
 -- all letters of the verdict were read
 unfoldable pub spelt : Verdict → ℕ → Bool
@@ -98,7 +100,7 @@ unsatisfiable Unknown = false
 
 -- UN goes on as UNSATISFIABLE, and with a K as UNKNOWN
 unfoldable pub turns : Verdict → ℕ → ℕ → Bool
-turns v n b = eqb n 2 && (eqb b 75 && unsatisfiable v)
+turns v n b = eqb n 2 && (eqb b (code "K") && unsatisfiable v)
 
 unfoldable pub nextLetter : Scan → ℕ → Scan
 nextLetter s b =
@@ -109,32 +111,32 @@ unfoldable pub wordDone : Scan → Place → Scan
 wordDone s p = cond (spelt (s .verdict) (s .letters)) (to s p) (bad s)
 
 unfoldable pub inWord : Scan → ℕ → Scan
-inWord s b = cond (blank b) (wordDone s AfterWord) (cond (eqb b 10) (wordDone s Start) (nextLetter s b))
+inWord s b = cond (blank b) (wordDone s AfterWord) (cond (eqb b (code "\n")) (wordDone s Start) (nextLetter s b))
 
 unfoldable pub afterWord : Scan → ℕ → Scan
-afterWord s b = cond (blank b) (to s AfterWord) (cond (eqb b 10) (to s Start) (bad s))
+afterWord s b = cond (blank b) (to s AfterWord) (cond (eqb b (code "\n")) (to s Start) (bad s))
 
 unfoldable pub afterToken : Scan → ℕ → Scan
-afterToken s b = cond (blank b) (to s BeforeToken) (cond (eqb b 10) (to s Start) (bad s))
+afterToken s b = cond (blank b) (to s BeforeToken) (cond (eqb b (code "\n")) (to s Start) (bad s))
 
 unfoldable pub firstByte : Scan → ℕ → Scan
 firstByte s b =
-    cond (eqb b 45) (begin s AfterMinus true 0)
-    (cond (eqb b 48) (close s) (cond (digit19 b) (begin s Digits false (b - 48)) (bad s)))
+    cond (eqb b (code "-")) (begin s AfterMinus true 0)
+    (cond (eqb b (code "0")) (close s) (cond (digit19 b) (begin s Digits false (b - code "0")) (bad s)))
 
 -- nothing stands after the 0
 unfoldable pub tokenByte : Scan → ℕ → Scan
 tokenByte s b = cond (s .closed) (bad s) (firstByte s b)
 
 unfoldable pub beforeToken : Scan → ℕ → Scan
-beforeToken s b = cond (blank b) (to s BeforeToken) (cond (eqb b 10) (to s Start) (tokenByte s b))
+beforeToken s b = cond (blank b) (to s BeforeToken) (cond (eqb b (code "\n")) (to s Start) (tokenByte s b))
 
 unfoldable pub afterMinus : Scan → ℕ → Scan
-afterMinus s b = cond (digit19 b) (count s (b - 48)) (bad s)
+afterMinus s b = cond (digit19 b) (count s (b - code "0")) (bad s)
 
 -- numbers past 200,000,000 are past V and are not told apart
 unfoldable pub grow : ℕ → ℕ → ℕ
-grow w d = cond (leb w 200000000) (w * 10 + d) w
+grow w d = cond (leb w 200_000_000) (w * 10 + d) w
 
 -- ---- the end of a literal
 
@@ -158,8 +160,8 @@ ending last kept s next t = settle last kept (literalOf (s .minus) (s .value)) s
 unfoldable pub inDigits : ℕ → ℕ → Scan → List ℕ → ℕ → Reader
 inDigits last kept s t b =
     cond (blank b) (ending last kept s (to s BeforeToken) t)
-    (cond (eqb b 10) (ending last kept s (to s Start) t)
-    (cond (digit b) (at-rest (count s (grow (s .value) (b - 48))) t) (at-rest (bad s) t)))
+    (cond (eqb b (code "\n")) (ending last kept s (to s Start) t)
+    (cond (digit b) (at-rest (count s (grow (s .value) (b - code "0"))) t) (at-rest (bad s) t)))
 
 -- ---- a byte
 
@@ -199,7 +201,7 @@ unfoldable pub atLimit : Place → Scan → Scan
 atLimit p s = cond (refusedAt p) s (bad s)
 
 unfoldable pub step : ℕ → ℕ → Scan → List ℕ → ℕ → Reader
-step last kept s t b = cond (eqb (s .at) 4294967295) (at-rest (atLimit (s .place) s) t) (byPlace (s .place) last kept s t b)
+step last kept s t b = cond (eqb (s .at) 4_294_967_295) (at-rest (atLimit (s .place) s) t) (byPlace (s .place) last kept s t b)
 
 -- the bytes of a text, one after another
 abbrev pub run : ℕ → ℕ → Reader → List ℕ → Reader

@@ -1,7 +1,9 @@
 -- The part of a call that comes before reading, as its function promises it.
 use mathlib.Core.Path.{_≡_}
+use mathlib.Core.Option.{Option}
 use Prim.Native.Nat.{ℕ}
 use Rattle.automaton.specs.declared.Automaton.{Automaton}
+use Rattle.automaton.specs.declared.refusal.Code.{Code}
 use Rattle.automaton.specs.declared.refusal.Refusal.{Refusal}
 use Rattle.automaton.specs.declared.refusal.Refusal.the-variants.{Outside}
 use Rattle.automaton.specs.Value.{Valid}
@@ -14,7 +16,7 @@ use Rattle.solution.specs.Calls.{InRange}
 -- what speaks against reading
 pub data Objects (a : Automaton) (n m : ℕ) (r : Reader) : Refusal → Type 0 where
   state : ¬ InRange r → Objects a n m r Outside
-  call : {f : Refusal} → InRange r → Refuses a n m f → Objects a n m r f
+  call : {f : Refusal} {c : Option Code} → InRange r → Refuses a n m f c → Objects a n m r f
 
 -- the sizes of the file, or the objection
 abbrev pub Judged : Automaton → ℕ → ℕ → Reader → Sized → Type 0

@@ -17,17 +17,14 @@ use Rattle.solution.specs.declared.scan.Place.the-variants.{Start, Comme
 use Rattle.solution.specs.SolverText.{Seen, Outcome, gives, refused, outcome}
 use Rattle.solution.specs.Machine.{at-rest, step, run, end, answerAt, fresh}
 use Rattle.variables.specs.Sizes.{Dimensioned}
-use Rattle.solution.specs.Calls.{InRange, Reads, none, piece, Ends, last, kept}
+use Rattle.solution.specs.Calls.{InRange, Reads, none, piece, Ends, joined, last, kept}
+use Rattle.solution.specs.Cases.{clash}
 use Rattle.solution.specs.Counts.{kept-le, last-le}
 use Rattle.solution.specs.Range.{run-kept}
 use Rattle.solution.specs.Table.{table}
 use Rattle.solution.specs.Agreement.{result, failure, unended, resultOf, resultAt, expected, agrees}
 
-abbrev pub joined : List (List ℕ) → List ℕ
-joined [] = []
-joined (u ∷ us) = u ++ joined us
-
-run-append : (last kept : ℕ) (r : Reader) (u w : List ℕ) → run last kept r (u ++ w) ≡ run last kept (run last kept r u) w
+pub run-append : (last kept : ℕ) (r : Reader) (u w : List ℕ) → run last kept r (u ++ w) ≡ run last kept (run last kept r u) w
 run-append last kept r [] w = refl
 run-append last kept r (b ∷ u) w = run-append last kept (step last kept (r .scan) (r .named) b) u w
 
@@ -41,6 +38,8 @@ module _ {a : Automaton} {n m : ℕ} (v : Valid a) (z : Dimensioned n m) where
       let after : e .reader ≡ run L K r u = ap (λ x. x .reader) (c .text v h z) in
       pieces (subst InRange (sym after) (run-kept L K r u h)) k ∙ ap (λ x. run L K x (joined us)) after ∙ sym (run-append L K r u (joined us))
 
+-- ---- a fresh reader
+
 zeros : (n i : ℕ) → _≡_ {A = ℕ} (getD (replicate n 0) i 0) 0
 zeros zero i = refl
 zeros (suc n) zero = refl
@@ -48,6 +47,13 @@ zeros (suc n) (suc i) = zeros n i
 
 pub fresh-range : InRange fresh
 fresh-range = record { letters-le = omega arith; value-le = omega arith; named-le = λ v h. omega (arith, zeros 5121 v) }
+
+module _ {a : Automaton} {n m : ℕ} (v : Valid a) (z : Dimensioned n m) {us : List (List ℕ)} {q : Reader} (k : Reads a n m fresh us q) where
+  pub reads-run : q ≡ run (last a n m) (kept a n m) fresh (joined us)
+  reads-run = pieces v z fresh-range k
+
+  pub reads-range : InRange q
+  reads-range = subst InRange (sym reads-run) (run-kept (last a n m) (kept a n m) fresh (joined us) fresh-range)
 
 -- ---- the reply at the end
 
@@ -58,9 +64,6 @@ pub record Tells (kept : ℕ) (x : Outcome) (e : Reply) : Type 0 where
   pub ended : (s : Seen) → x ≡ gives s → e .reader .scan .place ≡ Ended
   pub verdict : (s : Seen) → x ≡ gives s → e .reader .scan .verdict ≡ s .verdict
   pub named : (s : Seen) → x ≡ gives s → e .reader .named ≡ table kept (s .literals)
-
-clash : {P : Type 0} → _≡_ {A = ℕ} 0 1 → P
-clash e = absurd (omega arith)
 
 module _ (kept : ℕ) where
   unended-tells : {P : Type 0} (x : Outcome) → unended ≡ expected kept x → P
@@ -107,8 +110,8 @@ pub whole-text : {a : Automaton} {n m : ℕ} → Valid a → Dimensioned n m →
 whole-text {a} {n} {m} v z {us} {q} {e} k c =
     let L = last a n m in
     let K = kept a n m in
-    let at : q ≡ run L K fresh (joined us) = pieces v z fresh-range k in
-    let h : InRange q = subst InRange (sym at) (run-kept L K fresh (joined us) fresh-range) in
+    let at : q ≡ run L K fresh (joined us) = reads-run v z k in
+    let h : InRange q = reads-range v z k in
     let r = end L K q in
     let same : resultOf r ≡ expected K (outcome L K (joined us)) = ap (λ y. resultOf (end L K y)) at ∙ agrees L K (omega (arith, last-le v z)) (kept-le v z) (joined us) in
     subst (λ y. Tells K (outcome L K (joined us)) y) (sym (c .text v h z)) (tells K (r .scan .place) (r .scan) (r .named) (outcome L K (joined us)) refl same)

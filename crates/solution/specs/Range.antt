@@ -11,7 +11,7 @@ use lib.IntN.{ℤ, pos, natAbs}
 use lib.Signed.{ltZ}
 use lib.ListN.{length, getD, set}
 use lib.Seq.{getD-set-same, getD-set-other, set-out}
-use Rattle.meaning.specs.Tests.{and-left, and-right}
+use Rattle.meaning.specs.TestLaws.{and-left, and-right}
 use Rattle.solution.specs.declared.Reader.{Reader}
 use Rattle.solution.specs.declared.scan.Scan.{Scan}
 use Rattle.solution.specs.declared.scan.Place.{Place}

@@ -1,12 +1,18 @@
 -- DEFINITION: what a solver text gives, or where its first fault lies: document 01's section "Solver text", and rows 9 and 10 of
 -- "What is turned down". `last` is V, the last variable; the step and mark variables are those up to `kept`.
+use mathlib.Core.Path.{_≡_}
 use mathlib.Core.Bool.{Bool, true, false, cond, _&&_, _||_}
-use mathlib.Core.List.{List, [], _∷_}
-use Prim.Native.Nat.{ℕ, _+_, _-_, _*_}
+use mathlib.Core.List.{List, [], _∷_, _++_}
+use mathlib.Core.Option.{Option, none, some}
+use Prim.Native.Char.{code}
+use Prim.Native.Nat.{ℕ, _+_, _-_, _*_, _<_}
 use lib.Dec.{ltb, leb, eqb}
 use lib.IntN.{ℤ, pos, negℤ, natAbs}
+use Rattle.automaton.specs.declared.refusal.Code.{Code}
 use Rattle.automaton.specs.declared.refusal.Refusal.{Refusal}
 use Rattle.automaton.specs.declared.refusal.Refusal.the-variants.{SolverForm, Literal}
+use Rattle.automaton.specs.Refused.{codeOf}
+use Rattle.automaton.specs.Bytes.{bytes}
 use Rattle.solution.specs.declared.scan.Verdict.{Verdict}
 use Rattle.solution.specs.declared.scan.Verdict.the-variants.{Unstated, Satisfiable, Unsatisfiable, Unknown}
 
@@ -27,6 +33,11 @@ pub data Outcome : Type 0 where
   gives : Seen → Outcome
   refused : Refusal → Outcome
 
+-- "Returned (number, a, b)": what a text is turned down with, or none
+abbrev pub fault : Outcome → Option Code
+fault (gives s) = none
+fault (refused x) = some (codeOf x)
+
 -- 9 and 10, with their offsets
 abbrev pub form : ℕ → Outcome
 form o = refused (SolverForm o)
@@ -41,23 +52,27 @@ followed (refused x) f = refused x
 
 -- ---- bytes, and where they stand
 
+abbrev pub Bytes : List ℕ → Type 0
+Bytes [] = Unit {0}
+Bytes (b ∷ u) = (b < 256) × Bytes u
+
 abbrev pub lf : ℕ → Bool
-lf b = eqb b 10
+lf b = eqb b (code "\n")
 
 -- "Blanks are spaces or tabs"
 unfoldable pub blank : ℕ → Bool
-blank b = eqb b 32 || eqb b 9
+blank b = eqb b (code " ") || eqb b (code "\t")
 
 unfoldable pub digit : ℕ → Bool
-digit b = leb 48 b && leb b 57
+digit b = leb (code "0") b && leb b (code "9")
 
 unfoldable pub digit19 : ℕ → Bool
-digit19 b = leb 49 b && leb b 57
+digit19 b = leb (code "1") b && leb b (code "9")
 
 -- "Byte 4,294,967,295, counted from 0, is refused with 9": it is read as a number that no byte is and that no line can have
 abbrev pub fenced : ℕ → List ℕ → List ℕ
 fenced o [] = []
-fenced o (b ∷ r) = let t = fenced (o + 1) r in cond (eqb o 4294967295) (256 ∷ []) (b ∷ t)
+fenced o (b ∷ r) = let t = fenced (o + 1) r in cond (eqb o 4_294_967_295) (256 ∷ []) (b ∷ t)
 
 -- what stands before the first separator, and the pieces after each
 abbrev pub split : (ℕ → Bool) → List ℕ → List ℕ × List (List ℕ)
@@ -86,9 +101,9 @@ skipped o s (b ∷ l) = let r = skipped (o + 1) s l in cond (ltb b 256) r (form 
 -- "One `s` line: SATISFIABLE, UNSATISFIABLE or UNKNOWN"
 abbrev pub word : Verdict → List ℕ
 word Unstated = []
-word Satisfiable = 83 ∷ 65 ∷ 84 ∷ 73 ∷ 83 ∷ 70 ∷ 73 ∷ 65 ∷ 66 ∷ 76 ∷ 69 ∷ []
-word Unsatisfiable = 85 ∷ 78 ∷ 83 ∷ 65 ∷ 84 ∷ 73 ∷ 83 ∷ 70 ∷ 73 ∷ 65 ∷ 66 ∷ 76 ∷ 69 ∷ []
-word Unknown = 85 ∷ 78 ∷ 75 ∷ 78 ∷ 79 ∷ 87 ∷ 78 ∷ []
+word Satisfiable = bytes "SATISFIABLE"
+word Unsatisfiable = bytes "UNSATISFIABLE"
+word Unknown = bytes "UNKNOWN"
 
 abbrev pub unstated : Verdict → Bool
 unstated Unstated = true
@@ -171,20 +186,20 @@ module _ (last kept : ℕ) where
   -- the digits at o and after, of a literal that began at `from` and has the number v so far
   abbrev pub digits : ℕ → ℕ → Bool → ℕ → Seen → List ℕ → Outcome
   digits o from minus v s [] = settled from (literalOf minus v) s
-  digits o from minus v s (b ∷ u) = let r = digits (o + 1) from minus (v * 10 + (b - 48)) s u in cond (digit b) r (form o)
+  digits o from minus v s (b ∷ u) = let r = digits (o + 1) from minus (v * 10 + (b - code "0")) s u in cond (digit b) r (form o)
 
   -- after the minus: "no leading zero, no -0"
   abbrev pub number : ℕ → ℕ → Bool → Seen → List ℕ → Outcome
   number o from minus s [] = form o
-  number o from minus s (b ∷ u) = cond (digit19 b) (digits (o + 1) from minus (b - 48) s u) (form o)
+  number o from minus s (b ∷ u) = cond (digit19 b) (digits (o + 1) from minus (b - code "0") s u) (form o)
 
   -- what stands at o between two blanks: nothing, a literal, or the 0, and after "the last of all being 0" nothing
   abbrev pub token : ℕ → Seen → List ℕ → Outcome
   token o s [] = gives s
   token o s (b ∷ u) =
       cond (s .closed) (form o)
-      (cond (eqb b 45) (number (o + 1) o true s u)
-      (cond (eqb b 48) (nothing (o + 1) u (gives (with-zero s))) (number o o false s (b ∷ u))))
+      (cond (eqb b (code "-")) (number (o + 1) o true s u)
+      (cond (eqb b (code "0")) (nothing (o + 1) u (gives (with-zero s))) (number o o false s (b ∷ u))))
 
   -- the pieces after a blank at e
   abbrev pub tokens : ℕ → Seen → List (List ℕ) → Outcome
@@ -198,9 +213,9 @@ module _ (last kept : ℕ) where
   line o s [] = gives s
   line o s (b ∷ l) =
       let c = split blank l in
-      cond (eqb b 99) (skipped (o + 1) s l)
-      (cond (eqb b 115) (cond (unstated (s .verdict)) (nothing (o + 1) (c .0) (verdictLine (o + 1) s (c .1))) (form o))
-      (cond (eqb b 118) (nothing (o + 1) (c .0) (tokens (o + 1) (with-line s) (c .1))) (form o)))
+      cond (eqb b (code "c")) (skipped (o + 1) s l)
+      (cond (eqb b (code "s")) (cond (unstated (s .verdict)) (nothing (o + 1) (c .0) (verdictLine (o + 1) s (c .1))) (form o))
+      (cond (eqb b (code "v")) (nothing (o + 1) (c .0) (tokens (o + 1) (with-line s) (c .1))) (form o)))
 
   -- "at the end of the text (offset: length) no `s` line, SATISFIABLE without 0, or another verdict with a `v` line"
   unfoldable pub judged : ℕ → Seen → Outcome
@@ -216,3 +231,7 @@ module _ (last kept : ℕ) where
   -- "Lines end in LF (optional on the last)"
   unfoldable pub outcome : List ℕ → Outcome
   outcome text = let c = split lf (fenced 0 text) in followed (line 0 unread (c .0)) (λ r. lines (past 0 (c .0)) r (c .1))
+
+  -- every text that begins with these bytes is turned down with x
+  abbrev pub AllRefused : List ℕ → Refusal → Type 0
+  AllRefused text x = (u : List ℕ) → Bytes u → outcome (text ++ u) ≡ refused x

@@ -9,7 +9,7 @@ use borrow.Author.Tests.{eqb-true, ne-eqb, ltb-true, ltb-false, le-leb, lt-leb}
 use lib.Dec.{ltb, leb, eqb}
 use lib.ListN.{length, getD, drop, drop-of-length-le}
 use lib.Seq.{drop-cons}
-use Rattle.meaning.specs.Tests.{and-left, and-right}
+use Rattle.meaning.specs.TestLaws.{and-left, and-right}
 use Rattle.solution.specs.declared.scan.Verdict.{Verdict}
 use Rattle.solution.specs.declared.scan.Verdict.the-variants.{Unstated, Satisfiable, Unsatisfiable, Unknown}
 use Rattle.solution.specs.SolverText.{Outcome, form, word, going, complete, unless-none, spelled}

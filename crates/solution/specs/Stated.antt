@@ -15,10 +15,10 @@ use Rattle.solution.specs.declared.scan.Verdict.the-variants.{Satisfiabl
 use Rattle.solution.specs.Assignment.{States}
 use Rattle.solution.specs.Machine.{fresh}
 use Rattle.variables.specs.Sizes.{Dimensioned}
-use Rattle.solution.specs.Calls.{Reads, Ends, last, kept}
+use Rattle.solution.specs.Calls.{Reads, Ends, joined, last, kept}
 use Rattle.solution.specs.Counts.{kept-le}
 use Rattle.solution.specs.Table.{table-asserted}
-use Rattle.solution.specs.Pieces.{joined, whole-text}
+use Rattle.solution.specs.Pieces.{whole-text}
 
 -- the step and mark variables that are true by the table are those that the assignment says yes to
 pub record Holds (kept : ℕ) (assignment : ℕ → Bool) (e : Reply) : Type 0 where

@@ -11,7 +11,7 @@ use lib.Dec.{leb, eqb}
 use lib.IntN.{ℤ, pos, negsuc, natAbs}
 use lib.ListN.{length, getD, set, length-set, replicate}
 use lib.Seq.{getD-set-same, getD-set-other, ext-getD}
-use Rattle.meaning.specs.Tests.{or-false}
+use Rattle.meaning.specs.TestLaws.{or-false}
 use Rattle.solution.specs.SolverText.{mentioned}
 use Rattle.solution.specs.Assignment.{asserted}
 use Rattle.solution.specs.Machine.{markOf}

@@ -213,7 +213,7 @@ fn first_byte(s: Scan, b: u8) -> Scan
     match b {
         b'-' => begun(s, Place::AfterMinus, true, 0),
         b'0' => shut(s),
-        b'1'..=b'9' => begun(s, Place::Digits, false, wide(b - 48)),
+        b'1'..=b'9' => begun(s, Place::Digits, false, wide(b - b'0')),
         _ => malformed(s),
     }
 }
@@ -223,7 +223,7 @@ fn after_minus(s: Scan, b: u8) -> Scan
     ensures { λ r. ⌜ r ≡ afterMinus s b ⌝ }
 {
     match b {
-        b'1'..=b'9' => valued(s, wide(b - 48)),
+        b'1'..=b'9' => valued(s, wide(b - b'0')),
         _ => malformed(s),
     }
 }
@@ -236,7 +236,7 @@ fn in_digits(s: Scan, b: u8, named: &mut [u8; Reader::SLOTS], last: u32, kept: u
         b' ' => end_literal(s, moved(s, Place::BeforeToken), named, last, kept),
         b'\t' => end_literal(s, moved(s, Place::BeforeToken), named, last, kept),
         b'\n' => end_literal(s, moved(s, Place::Start), named, last, kept),
-        b'0'..=b'9' => valued(s, grown(s.value, wide(b - 48))),
+        b'0'..=b'9' => valued(s, grown(s.value, wide(b - b'0'))),
         _ => malformed(s),
     }
 }

@@ -54,7 +54,7 @@ impl Reader {
         }
     }
 
-    // Reads a piece of the text, of any length.
+    // Reads a piece of the text, of any length. It is refused exactly where every text that begins so is.
     pub fn read(self, reference: Automaton, n: usize, m: usize, piece: &[u8]) -> Reply
         ensures { λ e. ⌜ Called reference n m self (told (run (last reference n m) (kept reference n m) self (now (piece .entry)))) e ⌝ }
     {

@@ -6,7 +6,7 @@ use Prim.Native.Nat.{ℕ, _+_, _*_, _^_, _≤_, _<_, min}
 use native.Mathlib.Omega.{arith}
 use borrow.Author.Tests.{lt-ltb, ltb-true, le-leb, leb-true, eq-eqb, eqb-true}
 use lib.Dec.{ltb, leb, eqb}
-use Rattle.meaning.specs.Tests.{and-true, and-left, and-right}
+use Rattle.meaning.specs.TestLaws.{and-true, and-left, and-right}
 use Rattle.automaton.specs.Powers.{power-is}
 use Rattle.encoding.specs.Variables.{Var, step, mark, path}
 use Rattle.variables.specs.declared.sizes.Counts.{Counts}

@@ -7,7 +7,7 @@ use Rattle.automaton.specs.Value.{Valid}
 use Rattle.variables.specs.declared.sizes.Sizes.{Sizes}
 use Rattle.variables.specs.declared.sizes.Sized.{Sized}
 use Rattle.variables.specs.declared.sizes.Sized.the-variants.{Of, Refused}
-use Rattle.variables.specs.Sizes.{Dimensioned, Refuses, Sizing, sizesOf}
+use Rattle.variables.specs.Sizes.{Dimensioned, Refuses, Sizing, sizesOf, returned}
 
 -- z are the sizes of a file for the reference a
 pub record Measured (a : Automaton) (z : Sizes) : Type 0 where
@@ -19,7 +19,7 @@ pub record Measured (a : Automaton) (z : Sizes) : Type 0 where
 pub sizing-of : {a : Automaton} {n m : ℕ} {s : Sized} {z : Sizes} → Sizing a n m s → s ≡ Of z → Valid a × Dimensioned n m × (z ≡ sizesOf a n m)
 sizing-of {a} {n} {m} h e = subst (Sizing a n m) e h
 
-pub sizing-refused : {a : Automaton} {n m : ℕ} {s : Sized} {f : Refusal} → Sizing a n m s → s ≡ Refused f → Refuses a n m f
+pub sizing-refused : {a : Automaton} {n m : ℕ} {s : Sized} {f : Refusal} → Sizing a n m s → s ≡ Refused f → Refuses a n m f (returned (Refused f))
 sizing-refused {a} {n} {m} h e = subst (Sizing a n m) e h
 
 pub measured-of : {a : Automaton} {n m : ℕ} {z : Sizes} → Valid a → Dimensioned n m → z ≡ sizesOf a n m → Measured a z

@@ -1,7 +1,8 @@
--- DEFINITIONS: the variables of a file of given sizes, and their numbers. They depend on the reference by its counts only.
+-- DEFINITIONS: the variables of a file of given sizes, their numbers and their literals. They depend on the reference by its counts only.
 use mathlib.Core.Path.{_≡_}
 use mathlib.Core.Bool.{true, false}
 use Prim.Native.Nat.{ℕ, _≤_, _<_}
+use lib.IntN.{ℤ, pos}
 use Rattle.meaning.specs.Automata.{Aut}
 use Rattle.encoding.specs.Variables.{Var, Present, base, base-number, base-variables}
 use Rattle.variables.specs.declared.sizes.Sizes.{Sizes}
@@ -40,3 +41,14 @@ pub record Numbered (z : Sizes) (x : Var) (k : ℕ) : Type 0 where
 pub record NumberIfAny (z : Sizes) (x : Var) (k : ℕ) : Type 0 where
   pub there : Fitting z → InFile z x → k ≡ numberOf z x
   pub none : ¬ (Fitting z × InFile z x) → k ≡ 0
+
+-- on all input: V, or 0 where there is no file of these sizes
+pub record LastIfAny (z : Sizes) (k : ℕ) : Type 0 where
+  pub there : Fitting z → k ≡ lastVariable z
+  pub none : ¬ Fitting z → k ≡ 0
+  pub small : k ≤ 4_199_424
+
+-- on all input: the literal of a variable, or 0, which is none, where 32 bits do not hold the variable and a sign
+pub record LiteralIfAny (variable : ℕ) (literal r : ℤ) : Type 0 where
+  pub there : variable < 2_147_483_648 → r ≡ literal
+  pub none : 2_147_483_648 ≤ variable → r ≡ pos 0

@@ -1,9 +1,12 @@
 -- DEFINITIONS: the sizes of a clause file, as the code carries them, and for which reference, n and m there is a file.
 use mathlib.Core.Path.{_≡_}
+use mathlib.Core.Option.{Option, none, some}
 use Prim.Native.Nat.{ℕ, _+_, _*_, _^_, _≤_}
 use Rattle.automaton.specs.declared.Automaton.{Automaton}
+use Rattle.automaton.specs.declared.refusal.Code.{Code}
 use Rattle.automaton.specs.declared.refusal.Refusal.{Refusal}
 use Rattle.automaton.specs.declared.refusal.Refusal.the-variants.{Outside, Dimensions}
+use Rattle.automaton.specs.Refused.{row, codeOf}
 use Rattle.automaton.specs.Value.{Valid}
 use Rattle.variables.specs.declared.sizes.Counts.{Counts}
 use Rattle.variables.specs.declared.sizes.Sizes.{Sizes}
@@ -16,10 +19,11 @@ pub record Dimensioned (n m : ℕ) : Type 0 where
   pub n-le : n ≤ 8
   pub m-le : m ≤ 4
 
--- what is turned down: "an automaton handed over as a value that lies outside "The automaton"", then "n outside 1 to 8 or m outside 0 to 4"
-pub data Refuses (a : Automaton) (n m : ℕ) : Refusal → Type 0 where
-  outside : ¬ Valid a → Refuses a n m Outside
-  dimensions : Valid a → ¬ Dimensioned n m → Refuses a n m (Dimensions n m)
+-- what is turned down, and the number and values that are then returned: "an automaton handed over as a value that lies outside "The automaton"",
+-- then "n outside 1 to 8 or m outside 0 to 4"
+pub data Refuses (a : Automaton) (n m : ℕ) : Refusal → Option Code → Type 0 where
+  outside : ¬ Valid a → Refuses a n m Outside (some (row 4 0 0))
+  dimensions : Valid a → ¬ Dimensioned n m → Refuses a n m (Dimensions n m) (some (row 8 n m))
 
 abbrev pub countsOf : ℕ → ℕ → Counts
 countsOf states sets = record { states = states; sets = sets; subsets = 2 ^ sets }
@@ -36,10 +40,15 @@ measured n m states sets propositions = record {
 abbrev pub sizesOf : Automaton → ℕ → ℕ → Sizes
 sizesOf a n m = measured n m (a .states) (a .sets) (a .propositions)
 
+-- "Returned (number, a, b)": what an answer returns, or none where nothing is turned down
+abbrev pub returned : Sized → Option Code
+returned (Of z) = none
+returned (Refused f) = some (codeOf f)
+
 -- what the answer says of the reference, n and m
 abbrev pub Sizing : Automaton → ℕ → ℕ → Sized → Type 0
 Sizing a n m (Of z) = Valid a × Dimensioned n m × (z ≡ sizesOf a n m)
-Sizing a n m (Refused f) = Refuses a n m f
+Sizing a n m (Refused f) = Refuses a n m f (returned (Refused f))
 
 -- sizes that a file can have
 pub record Fitting (z : Sizes) : Type 0 where

@@ -3,8 +3,9 @@ ghost use mathlib.Core.Path.{_≡_};
 ghost use mathlib.Core.Logic.{_↔_};
 ghost use mathlib.Core.Bool.{true};
 ghost use Prim.Native.Nat.{_≤_};
-ghost use Rattle.variables.specs.Sizes.{Dimensioned, Fitting, Sizing, measured};
-ghost use Rattle.variables.specs.Numbers.{lastVariable};
+ghost use Rattle.variables.specs.Sizes.{Dimensioned, Sizing, measured};
+ghost use Rattle.variables.specs.Numbers.{LastIfAny};
+use crate::fitting;
 use automaton::Automaton;
 use automaton::powers::power_of_two;
 use automaton::refusal::Refusal;
@@ -85,11 +86,13 @@ fn measured(n: usize, m: usize, states: usize, sets: usize, propositions: usize)
     }
 }
 
-// V: the steps, the marks and the paths.
+// V: the steps, the marks and the paths; or 0 where no file has these sizes.
 pub fn last_variable(z: Sizes) -> usize
-    requires { ⌜ Fitting z ⌝ }
-    ensures { λ r. ⌜ (r ≡ lastVariable z) × (r ≤ 4199424) ⌝ }
+    ensures { λ r. ⌜ LastIfAny z r ⌝ }
 {
+    if !fitting(z) {
+        return 0;
+    }
     let pairs = z.candidate.states * z.reference.states;
     z.marks + pairs * pairs * (z.candidate.subsets * z.reference.subsets)
 }

@@ -1,9 +1,7 @@
 // The words of HOA text, byte for byte: the reader compares them, the writer copies them out.
 ghost use mathlib.Core.Path.{_≡_};
-ghost use Prim.Native.Nat.{_-_, _≤_, _<_};
-ghost use lib.ListN.{length, take};
-ghost use lib.Seq.{slice};
 ghost use Rattle.hoa_text.specs.Basics.{same};
+ghost use Rattle.words.specs.Parts.{spells, namesItem};
 
 // Item names, with their colons.
 pub const HOA: [u8; 4] = *b"HOA:";
@@ -53,19 +51,26 @@ pub fn same(word: &[u8], other: &[u8]) -> bool
     true
 }
 
-// Whether the text from `start` up to `end` is the word.
+// Whether the text from `start` up to `end` is the word. A part that does not lie in the text spells nothing.
 pub fn spells(text: &[u8], start: usize, end: usize, word: &[u8]) -> bool
-    requires { ⌜ (start ≤ end) × (end ≤ length (now text)) ⌝ }
-    ensures { λ r. ⌜ r ≡ same (now (word .entry)) (slice start end (now (text .entry))) ⌝ }
+    ensures { λ r. ⌜ r ≡ spells (now (text .entry)) start end (now (word .entry)) ⌝ }
 {
+    if start > end {
+        return false;
+    }
+    if end > text.len() {
+        return false;
+    }
     same(word, &text[start..end])
 }
 
 // Whether the text from `start` up to the colon at `end` is the item name, whose own colon stands last.
 pub fn names_item(text: &[u8], start: usize, end: usize, item: &[u8]) -> bool
-    requires { ⌜ (start ≤ end) × (end ≤ length (now text)) × (0 < length (now item)) ⌝ }
-    ensures { λ r. ⌜ r ≡ same (take (length (now (item .entry)) - 1) (now (item .entry))) (slice start end (now (text .entry))) ⌝ }
+    ensures { λ r. ⌜ r ≡ namesItem (now (text .entry)) start end (now (item .entry)) ⌝ }
 {
+    if item.len() == 0 {
+        return false;
+    }
     let size = item.len() - 1;
-    same(&item[0..size], &text[start..end])
+    spells(text, start, end, &item[0..size])
 }

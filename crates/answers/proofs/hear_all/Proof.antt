@@ -23,7 +23,7 @@ hear-requires : tie.Need-hear-requires Inv-loop μ-loop
 hear-requires c κs = tt
 
 loop-holds : tie.Need-loop-holds Inv-loop μ-loop
-loop-holds c = heard-first _ (c .before .before .before .fresh .ensures) (c .before .before .first .ensures) (c .hear .ensures)
+loop-holds c = heard-first _ (c .before .first2 .ensures) (c .before .before .before .fresh .ensures) (c .before .before .first .ensures) (c .hear .ensures)
 
 hear-some-requires : tie.Need-hear-some-requires Inv-loop μ-loop
 hear-some-requires c κs = tt
@@ -35,7 +35,7 @@ loop-again : tie.Need-loop-again Inv-loop μ-loop
 loop-again c = heard-next (c .before .loop-test .taken) (c .before .before .loop .inv) (c .hear-some .ensures)
 
 returns : tie.Need-returns Inv-loop μ-loop
-returns c = c .before .loop .inv
+returns c = (c .before .loop .inv, c .loop-test .left)
 
 pub hear-all-spec : {M : Type 1} → statement M
 hear-all-spec =

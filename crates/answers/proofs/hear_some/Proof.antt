@@ -1,6 +1,8 @@
 -- `hear_some` meets its contract: a piece that was read is not empty.
 use mathlib.Core.Path.{refl}
 use native.Mathlib.Omega.{arith}
+use Rattle.console.specs.Reading.{once-le}
+use Rattle.answers.specs.Bringing.{last-call}
 use Rattle.answers.specs.SoFar.{ends, goes}
 use Rattle.answers.proofs.Places.{piece-some}
 use borrow.Author.Needs.{needs}
@@ -17,7 +19,7 @@ read-some-requires : tie.Need-read-some-requires
 read-some-requires c κs = search needs
 
 returns : tie.Need-returns
-returns c = ends _ refl
+returns c = ends _ (last-call (c .before .before .before .read-some .ensures) (c .if1 .taken)) refl
 
 slice-aggregate-first : tie.Need-slice-aggregate-first
 slice-aggregate-first c = search needs
@@ -30,10 +32,13 @@ hear-requires c κs = search needs
 
 returns-2 : tie.Need-returns-2
 returns-2 c =
-    let r = c .before .before .before .before .before .before .read-some in
-    let some =
-    piece-some (r .result .length) (r .last .1 .1 .0) _ (c .before .first .ensures) (omega (arith, r .ensures, r .kept .1 .1 .0)) (c .before .before .before .if1 .left) in
-    goes _ some (c .hear .ensures)
+    let b = c .before .before .before .before .before .before in
+    let r = b .read-some in
+    let room = b .before .before .large-buffer .ensures in
+    let (some, most) =
+    piece-some (r .result .length) 65536 (r .last .1 .1 .0) _ (c .before .first .ensures) (omega (arith, once-le (r .ensures), room)) (omega (arith, room, r .kept .1 .1 .0))
+    (c .before .before .before .if1 .left) in
+    goes _ some most (c .hear .ensures)
 
 pub hear-some-spec : {M : Type 1} → statement M
 hear-some-spec =

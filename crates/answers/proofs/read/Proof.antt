@@ -1,4 +1,5 @@
 -- `read` meets its contract.
+use mathlib.Core.Path.{refl}
 use Rattle.answers.proofs.Ending.{told-pieces}
 use borrow.Author.Needs.{needs}
 use Rattle.answers.proofs.read.Statement.{statement}
@@ -26,7 +27,7 @@ returns : tie.Need-returns
 returns c =
     let d = c .before .before .before .before .before .before in
     let h = d .before .before .before .before .before in
-    told-pieces (h .hear-all .ensures) _ (d .decode .ensures) _ (c .before .first .ensures) (c .ended .ensures)
+    told-pieces (h .hear-all .ensures .0) _ (d .decode .ensures) _ (c .before .first .ensures) (c .ended .ensures) (h .hear-all .ensures .1) refl
 
 pub read-spec : {M : Type 1} → statement M
 read-spec =

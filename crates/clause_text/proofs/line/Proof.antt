@@ -1,26 +1,20 @@
 -- `line` meets its contract: refusals in document 01's order, then what is found.
-use mathlib.Core.Path.{subst}
+use mathlib.Core.Path.{refl, subst}
 use Rattle.clauses.specs.Step.{short, outside}
 use Rattle.variables.specs.Measured.{sizing-of, sizing-refused, measured-of}
 use Rattle.clauses.specs.Shared.{refused-sizes}
 use Rattle.clause_text.specs.Answers.{LineFound}
-use Rattle.clause_text.proofs.Answering.{line-refused, line-accepted}
+use Rattle.clause_text.proofs.Answering.{line-accepted}
 use borrow.Author.Needs.{needs}
 use native.Mathlib.Omega.{arith}
 use Rattle.clause_text.proofs.line.Statement.{statement}
 use Rattle.clause_text.proofs.line.Tie as tie
 
-hand-over-requires : tie.Need-hand-over-requires
-hand-over-requires c κs = search needs
-
 returns : tie.Need-returns
-returns c = line-refused (c .before .before .before .args .reference) (c .before .before .before .args .n) (c .before .before .before .args .m) (c .before .before .before .args .position) (c .before .before .before .args .text .now) (short (c .before .if1 .taken)) (c .hand-over .ensures)
-
-hand-over-requires-2 : tie.Need-hand-over-requires-2
-hand-over-requires-2 c κs = search needs
+returns c = (short (c .if1 .taken), refl, refl)
 
 returns-2 : tie.Need-returns-2
-returns-2 c = line-refused (c .before .before .before .before .args .reference) (c .before .before .before .before .args .n) (c .before .before .before .before .args .m) (c .before .before .before .before .args .position) (c .before .before .before .before .args .text .now) (outside (omega arith) (λ (v, i). omega arith)) (c .hand-over2 .ensures)
+returns-2 c = (outside (omega arith) (λ (v, i). omega arith), refl, refl)
 
 measure-requires : tie.Need-measure-requires
 measure-requires c κs = search needs
@@ -34,9 +28,6 @@ one-line-requires c κs = let (v, i, e) = sizing-of (c .before .before .before .
 enum-known-sized-2 : tie.Need-enum-known-sized-2
 enum-known-sized-2 c = search needs
 
-hand-over-requires-3 : tie.Need-hand-over-requires-3
-hand-over-requires-3 c κs = search needs
-
 same-length : tie.Need-same-length
 same-length c = c .before .before .one-line .kept .1 .1 .1 .0
 
@@ -48,9 +39,9 @@ returns-3 c = let (v, i, q) = sizing-of (c .before .before .before .before .befo
     (subst (λ z. LineFound (a .reference) (z .candidate .states) (z .candidate .sets) (a .position) (a .text .now) (c .before .before .one-line .last .1 .1 .1 .0) (c .before .before .one-line .result .answer) (c .before .before .one-line .result .position)) q (c .before .before .one-line .ensures))
 
 returns-4 : tie.Need-returns-4
-returns-4 c = line-refused (c .before .before .before .before .before .before .before .before .args .reference) (c .before .before .before .before .before .before .before .before .args .n) (c .before .before .before .before .before .before .before .before .args .m) (c .before .before .before .before .before .before .before .before .args .position) (c .before .before .before .before .before .before .before .before .args .text .now) (refused-sizes (omega arith) (omega arith) (sizing-refused (c .before .before .before .before .measure .ensures) (c .before .before .sized2 .given .1))) (c .hand-over3 .ensures)
+returns-4 c = (refused-sizes (omega arith) (omega arith) (sizing-refused (c .before .before .before .measure .ensures) (c .before .sized2 .given .1)), refl, refl)
 
 pub line-spec : {M : Type 1} → statement M
 line-spec =
     tie.close
-    (tie.spec hand-over-requires returns hand-over-requires-2 returns-2 measure-requires enum-known-sized one-line-requires enum-known-sized-2 hand-over-requires-3 same-length returns-3 returns-4)
+    (tie.spec returns returns-2 measure-requires enum-known-sized one-line-requires enum-known-sized-2 same-length returns-3 returns-4)

@@ -1,8 +1,7 @@
 -- `many_lines` meets its contract.
 use Rattle.decimal.specs.Writing.{wrote-length}
-use Rattle.clause_list.specs.Tables.{measured-tables, measured-start}
+use Rattle.clause_list.specs.Measured.{measured-tables, measured-start}
 use Rattle.clause_text.proofs.Answering.{batch-ended, batch-handed}
-use borrow.Author.Needs.{needs}
 use Rattle.clause_text.proofs.many_lines.Statement.{statement}
 use Rattle.clause_text.proofs.many_lines.Tie as tie
 
@@ -12,25 +11,19 @@ extent-of-requires c κs = measured-tables (c .before .before .before .pre .0) .
 fill-requires : tie.Need-fill-requires
 fill-requires c κs = ((measured-tables (c .before .before .before .before .before .before .before .pre .0), measured-start (c .before .before .before .before .before .before .before .pre .0)), c .before .before .before .extent-of .ensures)
 
-hand-over-requires : tie.Need-hand-over-requires
-hand-over-requires c κs = search needs
-
 same-length : tie.Need-same-length
-same-length c = wrote-length (c .before .before .before .before .before .fill .ensures .lines .text)
+same-length c = wrote-length (c .before .before .before .before .fill .ensures .lines .text)
 
 returns : tie.Need-returns
-returns c = batch-ended (c .before .before .before .before .before .before .before .before .before .before .before .before .before .pre .0) _ (c .before .before .before .before .before .fill .ensures) (c .before .if1 .taken) (c .hand-over .ensures)
-
-hand-over-requires-2 : tie.Need-hand-over-requires-2
-hand-over-requires-2 c κs = search needs
+returns c = batch-ended (c .before .before .before .before .before .before .before .before .before .before .before .before .pre .0) _ (c .before .before .before .before .fill .ensures) (c .if1 .taken)
 
 same-length-2 : tie.Need-same-length-2
-same-length-2 c = wrote-length (c .before .before .before .before .before .fill .ensures .lines .text)
+same-length-2 c = wrote-length (c .before .before .before .before .fill .ensures .lines .text)
 
 returns-2 : tie.Need-returns-2
-returns-2 c = batch-handed (c .before .before .before .before .before .before .before .before .before .before .before .before .before .pre .0) _ (c .before .before .before .before .before .fill .ensures) (c .before .if1 .left) (c .hand-over2 .ensures)
+returns-2 c = batch-handed (c .before .before .before .before .before .before .before .before .before .before .before .before .pre .0) _ (c .before .before .before .before .fill .ensures) (c .if1 .left)
 
 pub many-lines-spec : {M : Type 1} → statement M
 many-lines-spec =
     tie.close
-    (tie.spec extent-of-requires fill-requires hand-over-requires same-length returns hand-over-requires-2 same-length-2 returns-2)
+    (tie.spec extent-of-requires fill-requires same-length returns same-length-2 returns-2)

@@ -1,8 +1,7 @@
 -- `one_line` meets its contract.
-use Rattle.clause_list.specs.Tables.{measured-tables, measured-start}
+use Rattle.clause_list.specs.Measured.{measured-tables, measured-start}
 use Rattle.clause_text.proofs.Batches.{line-length}
 use Rattle.clause_text.proofs.Answering.{line-ended, line-handed}
-use borrow.Author.Needs.{needs}
 use Rattle.clause_text.proofs.one_line.Statement.{statement}
 use Rattle.clause_text.proofs.one_line.Tie as tie
 
@@ -12,25 +11,19 @@ extent-of-requires c κs = measured-tables (c .before .before .before .pre .0) .
 next-line-requires : tie.Need-next-line-requires
 next-line-requires c κs = ((measured-tables (c .before .before .before .before .before .before .before .pre .0), measured-start (c .before .before .before .before .before .before .before .pre .0)), (c .before .before .before .extent-of .ensures, c .before .before .before .before .before .before .before .pre .1))
 
-hand-over-requires : tie.Need-hand-over-requires
-hand-over-requires c κs = search needs
-
 same-length : tie.Need-same-length
-same-length c = line-length (c .before .before .before .before .before .next-line .ensures)
+same-length c = line-length (c .before .before .before .before .next-line .ensures)
 
 returns : tie.Need-returns
-returns c = line-ended (c .before .before .before .before .before .before .before .before .before .before .before .before .before .pre .0) _ (c .before .before .before .before .before .next-line .ensures) (c .before .if1 .taken) (c .hand-over .ensures)
-
-hand-over-requires-2 : tie.Need-hand-over-requires-2
-hand-over-requires-2 c κs = search needs
+returns c = line-ended (c .before .before .before .before .before .before .before .before .before .before .before .before .pre .0) _ (c .before .before .before .before .next-line .ensures) (c .if1 .taken)
 
 same-length-2 : tie.Need-same-length-2
-same-length-2 c = line-length (c .before .before .before .before .before .next-line .ensures)
+same-length-2 c = line-length (c .before .before .before .before .next-line .ensures)
 
 returns-2 : tie.Need-returns-2
-returns-2 c = line-handed (c .before .before .before .before .before .before .before .before .before .before .before .before .before .pre .0) _ (c .before .before .before .before .before .next-line .ensures) (c .before .if1 .left) (c .hand-over2 .ensures)
+returns-2 c = line-handed (c .before .before .before .before .before .before .before .before .before .before .before .before .pre .0) _ (c .before .before .before .before .next-line .ensures) (c .if1 .left)
 
 pub one-line-spec : {M : Type 1} → statement M
 one-line-spec =
     tie.close
-    (tie.spec extent-of-requires next-line-requires hand-over-requires same-length returns hand-over-requires-2 same-length-2 returns-2)
+    (tie.spec extent-of-requires next-line-requires same-length returns same-length-2 returns-2)

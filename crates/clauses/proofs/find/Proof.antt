@@ -1,7 +1,6 @@
 -- `find` meets its contract.
-use Rattle.clause_list.specs.Tables.{measured-tables, measured-start}
+use Rattle.clause_list.specs.Measured.{measured-tables, measured-start}
 use Rattle.clauses.proofs.Laws.{found-ended, found-written, hands-length}
-use borrow.Author.Needs.{needs}
 use Rattle.clauses.proofs.find.Statement.{statement}
 use Rattle.clauses.proofs.find.Tie as tie
 
@@ -9,27 +8,21 @@ extent-of-requires : tie.Need-extent-of-requires
 extent-of-requires c κs = measured-tables (c .before .before .pre .0) .fits
 
 next-clause-requires : tie.Need-next-clause-requires
-next-clause-requires c κs = ((measured-tables (c .before .before .before .before .before .before .pre .0), measured-start (c .before .before .before .before .before .before .pre .0)), (c .before .before .before .extent-of .ensures, c .before .before .before .before .before .before .pre .1 .1))
-
-hand-over-requires : tie.Need-hand-over-requires
-hand-over-requires c κs = search needs
+next-clause-requires c κs = ((measured-tables (c .before .before .before .before .before .before .pre .0), measured-start (c .before .before .before .before .before .before .pre .0)), (c .before .before .before .extent-of .ensures, c .before .before .before .before .before .before .pre .1))
 
 same-length : tie.Need-same-length
-same-length c = hands-length (c .before .before .before .before .before .before .before .before .before .before .before .pre .0) _ (c .before .before .before .before .next-clause .ensures)
+same-length c = hands-length (c .before .before .before .before .before .before .before .before .before .before .pre .0) _ (c .before .before .before .next-clause .ensures)
 
 returns : tie.Need-returns
-returns c = found-ended (c .before .before .before .before .before .before .before .before .before .before .before .pre .0) _ (c .before .before .before .before .next-clause .ensures) (c .before .if1 .taken) (c .hand-over .ensures)
-
-hand-over-requires-2 : tie.Need-hand-over-requires-2
-hand-over-requires-2 c κs = search needs
+returns c = found-ended (c .before .before .before .before .before .before .before .before .before .before .pre .0) _ (c .before .before .before .next-clause .ensures) (c .if1 .taken)
 
 same-length-2 : tie.Need-same-length-2
-same-length-2 c = hands-length (c .before .before .before .before .before .before .before .before .before .before .before .pre .0) _ (c .before .before .before .before .next-clause .ensures)
+same-length-2 c = hands-length (c .before .before .before .before .before .before .before .before .before .before .pre .0) _ (c .before .before .before .next-clause .ensures)
 
 returns-2 : tie.Need-returns-2
-returns-2 c = found-written (c .before .before .before .before .before .before .before .before .before .before .before .pre .0) _ (c .before .before .before .before .next-clause .ensures) (c .before .if1 .left) (c .hand-over2 .ensures)
+returns-2 c = found-written (c .before .before .before .before .before .before .before .before .before .before .pre .0) _ (c .before .before .before .next-clause .ensures) (c .if1 .left)
 
 pub find-spec : {M : Type 1} → statement M
 find-spec =
     tie.close
-    (tie.spec extent-of-requires next-clause-requires hand-over-requires same-length returns hand-over-requires-2 same-length-2 returns-2)
+    (tie.spec extent-of-requires next-clause-requires same-length returns same-length-2 returns-2)

@@ -1,25 +1,19 @@
 -- `step` meets its contract: refusals in document 01's order, then what is found.
-use mathlib.Core.Path.{subst}
+use mathlib.Core.Path.{refl, subst}
 use Rattle.clauses.specs.Step.{short, outside, StepFound}
 use Rattle.variables.specs.Measured.{sizing-of, sizing-refused, measured-of}
 use Rattle.clauses.specs.Shared.{refused-sizes}
-use Rattle.clauses.proofs.Laws.{refused, stepped}
+use Rattle.clauses.proofs.Laws.{stepped}
 use borrow.Author.Needs.{needs}
 use native.Mathlib.Omega.{arith}
 use Rattle.clauses.proofs.step.Statement.{statement}
 use Rattle.clauses.proofs.step.Tie as tie
 
-hand-over-requires : tie.Need-hand-over-requires
-hand-over-requires c κs = search needs
-
 returns : tie.Need-returns
-returns c = refused (c .before .before .args .reference) (c .before .before .args .n) (c .before .before .args .m) (c .before .before .args .position) (c .before .before .args .clause .now) (short (c .before .if1 .taken)) (c .hand-over .ensures)
-
-hand-over-requires-2 : tie.Need-hand-over-requires-2
-hand-over-requires-2 c κs = search needs
+returns c = (short (c .if1 .taken), refl, refl)
 
 returns-2 : tie.Need-returns-2
-returns-2 c = refused (c .before .before .before .args .reference) (c .before .before .before .args .n) (c .before .before .before .args .m) (c .before .before .before .args .position) (c .before .before .before .args .clause .now) (outside (omega arith) (λ (v, i). omega arith)) (c .hand-over2 .ensures)
+returns-2 c = (outside (omega arith) (λ (v, i). omega arith), refl, refl)
 
 measure-requires : tie.Need-measure-requires
 measure-requires c κs = search needs
@@ -29,13 +23,10 @@ enum-known-sized c = search needs
 
 find-requires : tie.Need-find-requires
 find-requires c κs = let (v, i, e) = sizing-of (c .before .before .before .before .measure .ensures) (c .before .before .sized .given .1) in
-    (measured-of v i e, (omega arith, omega arith))
+    (measured-of v i e, omega arith)
 
 enum-known-sized-2 : tie.Need-enum-known-sized-2
 enum-known-sized-2 c = search needs
-
-hand-over-requires-3 : tie.Need-hand-over-requires-3
-hand-over-requires-3 c κs = search needs
 
 same-length : tie.Need-same-length
 same-length c = c .before .find .kept .1 .1 .1 .0
@@ -48,9 +39,9 @@ returns-3 c = let (v, i, q) = sizing-of (c .before .before .before .before .befo
     (subst (λ z. StepFound (a .reference) (z .candidate .states) (z .candidate .sets) (a .position) (a .clause .now) (c .before .find .last .1 .1 .1 .0) (c .before .find .result .answer) (c .before .find .result .position)) q (c .before .find .ensures))
 
 returns-4 : tie.Need-returns-4
-returns-4 c = refused (c .before .before .before .before .before .before .before .args .reference) (c .before .before .before .before .before .before .before .args .n) (c .before .before .before .before .before .before .before .args .m) (c .before .before .before .before .before .before .before .args .position) (c .before .before .before .before .before .before .before .args .clause .now) (refused-sizes (omega arith) (omega arith) (sizing-refused (c .before .before .before .before .measure .ensures) (c .before .before .sized2 .given .1))) (c .hand-over3 .ensures)
+returns-4 c = (refused-sizes (omega arith) (omega arith) (sizing-refused (c .before .before .before .measure .ensures) (c .before .sized2 .given .1)), refl, refl)
 
 pub step-spec : {M : Type 1} → statement M
 step-spec =
     tie.close
-    (tie.spec hand-over-requires returns hand-over-requires-2 returns-2 measure-requires enum-known-sized find-requires enum-known-sized-2 hand-over-requires-3 same-length returns-3 returns-4)
+    (tie.spec returns returns-2 measure-requires enum-known-sized find-requires enum-known-sized-2 same-length returns-3 returns-4)

@@ -1,5 +1,5 @@
 -- `compare` meets its contract.
-use Rattle.meaning.specs.Tests.{fails-not, passes-so}
+use Rattle.meaning.specs.TestLaws.{fails-not, passes-so}
 use Rattle.compare.proofs.Answers.{prefix-short, loop-short, one-outside, other-letters, found}
 use borrow.Author.Needs.{needs}
 use Rattle.compare.proofs.compare.Statement.{statement}

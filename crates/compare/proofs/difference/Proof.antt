@@ -1,6 +1,5 @@
 -- `difference` meets its contract.
 use Rattle.compare.specs.Searched.{searched}
-use Rattle.compare.specs.Differences.{in-range}
 use borrow.Author.Needs.{needs}
 use Rattle.automaton.specs.Powers.{power-is}
 use Rattle.compare.proofs.difference.Statement.{statement}
@@ -16,7 +15,7 @@ power-of-two-requires : tie.Need-power-of-two-requires
 power-of-two-requires c κs = search needs
 
 difference-requires : tie.Need-difference-requires
-difference-requires c κs = (in-range (c .before .before .before .before .before .before .before .before .before .before .before .before .before .before .before .before .before .pre .valid-a), in-range (c .before .before .before .before .before .before .before .before .before .before .before .before .before .before .before .before .before .pre .valid-b), c .before .before .power-of-two .ensures .1 .1)
+difference-requires c κs = search needs
 
 same-length : tie.Need-same-length
 same-length c = search needs

@@ -31,7 +31,7 @@ same-length c = search needs
 returns-3 : tie.Need-returns-3
 returns-3 c =
     let a = c .before .before .before .before .before .before .before .before .args in
-    wrote-decimal (a .n) (a .at) (c .before .before .before .before .before .before .digit-count .ensures) (omega arith) (c .before .before .write-digits .ensures)
+    wrote-decimal (a .n) (a .at) (c .before .before .before .before .before .before .digit-count .ensures) (c .before .before .write-digits .ensures)
 
 pub write-spec : {M : Type 1} → statement M
 write-spec =

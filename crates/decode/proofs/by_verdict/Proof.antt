@@ -1,8 +1,7 @@
 -- `by_verdict` meets its contract.
-use Rattle.decode.proofs.Answering.{answered}
+use Rattle.decode.proofs.Answering.{untouched, answered}
 use Rattle.solution.proofs.VerdictTags.{tagged}
 use Rattle.solution.specs.declared.scan.Verdict.the-variants.{Unstated, Satisfiable, Unsatisfiable, Unknown}
-use mathlib.Core.Path.{refl}
 use borrow.Author.Needs.{needs}
 use Rattle.decode.proofs.by_verdict.Statement.{statement}
 use Rattle.decode.proofs.by_verdict.Tie as tie
@@ -35,7 +34,7 @@ without-requires-2 : tie.Need-without-requires-2
 without-requires-2 c κs = search needs
 
 returns : tie.Need-returns
-returns c = λ v d. answered Unstated (tagged _ 0 (c .before .before .before .match .keys1)) (c .refused .ensures, refl, refl)
+returns c = λ v d. answered Unstated (tagged _ 0 (c .before .before .before .match .keys1)) (untouched (c .refused .ensures))
 
 same-length : tie.Need-same-length
 same-length c = search needs
@@ -47,10 +46,10 @@ returns-2 : tie.Need-returns-2
 returns-2 c = λ v d. answered Satisfiable (tagged _ 1 (c .before .before .before .before .before .before .before .before .match .keys2)) (c .before .before .before .before .by-assignment .ensures v d)
 
 returns-3 : tie.Need-returns-3
-returns-3 c = λ v d. answered Unsatisfiable (tagged _ 2 (c .before .before .match .keys3)) (c .without .ensures, refl, refl)
+returns-3 c = λ v d. answered Unsatisfiable (tagged _ 2 (c .before .before .match .keys3)) (untouched (c .without .ensures))
 
 returns-4 : tie.Need-returns-4
-returns-4 c = λ v d. answered Unknown (tagged _ 3 (c .before .before .match .keys4)) (c .without2 .ensures, refl, refl)
+returns-4 c = λ v d. answered Unknown (tagged _ 3 (c .before .before .match .keys4)) (untouched (c .without2 .ensures))
 
 pub by-verdict-spec : {M : Type 1} → statement M
 by-verdict-spec =

@@ -1,6 +1,5 @@
 -- `print_batch` meets its contract.
-use mathlib.Core.Bool.{false≢true}
-use Rattle.hoa_clauses.specs.Left.{fewer-left}
+use Rattle.hoa_clauses.proofs.Batches.{written, ended-now, never-refused}
 use borrow.Author.Needs.{needs}
 use Rattle.hoa_clauses.proofs.print_batch.Statement.{statement}
 use Rattle.hoa_clauses.proofs.print_batch.Tie as tie
@@ -43,14 +42,27 @@ returns c =
     let l = c .before .before .before .before .before .before .lines in
     let b = c .before .before .before .before .before .before .before .before in
     let a = b .before .args in
-    λ _. fewer-left (a .reference) (a .n) (a .m) (a .position) (b .large-buffer .result) (l .last .1 .1 .1 .1 .0) (l .result) _ (l .ensures)
-    (c .before .before .before .answer .given .1)
+    let p = b .before .pre in
+    written (a .reference) (a .n) (a .m) (a .position) (b .large-buffer .result) (l .last .1 .1 .1 .1 .0) (l .result) (l .ensures) (p .0) (p .1 .0) (p .1 .1) (b .large-buffer .ensures)
+    _ _ (c .before .before .before .answer .given .1) (c .print .ensures)
 
 returns-2 : tie.Need-returns-2
-returns-2 c = λ e. absurd (false≢true e)
+returns-2 c =
+    let l = c .before .before .before .lines in
+    let b = c .before .before .before .before .before in
+    let a = b .before .args in
+    let p = b .before .pre in
+    ended-now (a .reference) (a .n) (a .m) (a .position) (b .large-buffer .result) (l .last .1 .1 .1 .1 .0) (l .result) (l .ensures) (p .0) (p .1 .0) (p .1 .1) (b .large-buffer .ensures)
+    (c .before .match .keys2)
 
 returns-3 : tie.Need-returns-3
-returns-3 c = λ e. absurd (false≢true e)
+returns-3 c =
+    let l = c .before .before .before .before .before .before .before .lines in
+    let b = c .before .before .before .before .before .before .before .before .before in
+    let a = b .before .args in
+    let p = b .before .pre in
+    never-refused (a .reference) (a .n) (a .m) (a .position) (b .large-buffer .result) (l .last .1 .1 .1 .1 .0) (l .result) (l .ensures) (p .0) (p .1 .0) (p .1 .1) (b .large-buffer .ensures)
+    (c .before .before .before .before .answer2 .given .1)
 
 pub print-batch-spec : {M : Type 1} → statement M
 print-batch-spec =

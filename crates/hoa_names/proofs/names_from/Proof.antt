@@ -5,7 +5,7 @@ use Prim.Native.Nat.{_-_, _≤_}
 use borrow.Author.Needs.{needs}
 use denote.Ref.{now}
 use Rattle.hoa_text.specs.Header.{naming}
-use Rattle.hoa_text.specs.Offsets.{left}
+use Rattle.hoa_text.specs.Tokens.{left}
 use Rattle.hoa_names.specs.Naming.{Answers}
 use Rattle.hoa_names.proofs.Text.{SoFar, so-far-none, so-far-done, so-far-roomy, so-far-refused, so-far-more}
 use Rattle.hoa_names.proofs.names_from.Statement.{statement}
@@ -24,7 +24,7 @@ loop-holds : tie.Need-loop-holds Inv-loop μ-loop
 loop-holds c =
     let a = c .before .before .args in
     let p = c .before .before .pre in
-    (p .1, so-far-none (now (a .text)) (a .at) (a .count) (p .1) (p .0) _ (c .none .ensures))
+    (p .1, so-far-none (now (a .text)) (a .at) (a .count) (p .1) (p .0) (p .2) _ (c .none .ensures))
 
 name-requires : tie.Need-name-requires Inv-loop μ-loop
 name-requires c κs =

@@ -3,7 +3,7 @@ use mathlib.Core.Path.{subst}
 use borrow.Author.Needs.{needs}
 use denote.Ref.{now}
 use Rattle.scan.specs.Answers as Scanned
-use Rattle.hoa_names.proofs.Text.{no-count, count-over, count-read}
+use Rattle.hoa_names.proofs.Text.{no-count, count-ends, count-over, count-read}
 use Rattle.hoa_names.proofs.propositions.Statement.{statement}
 use Rattle.hoa_names.proofs.propositions.Tie as tie
 
@@ -22,7 +22,9 @@ returns c =
     count-over (now (a .text)) (a .at) _ _ _ (subst (Scanned.Reads _ _) (c .before .before .before .offset .given .1) (c .before .before .before .before .before .next-token .ensures)) (c .before .if1 .taken) (c .refused .result) (c .refused .ensures)
 
 names-from-requires : tie.Need-names-from-requires
-names-from-requires c κs = ((subst (Scanned.Reads _ _) (c .before .before .offset .given .1) (c .before .before .before .before .next-token .ensures)) .lies .to, c .if1 .left)
+names-from-requires c κs =
+    let h = subst (Scanned.Reads _ _) (c .before .before .offset .given .1) (c .before .before .before .before .next-token .ensures) in
+    (h .lies .to, c .if1 .left, count-ends _ _ _ _ _ h)
 
 offset-requires : tie.Need-offset-requires
 offset-requires c κs = search needs

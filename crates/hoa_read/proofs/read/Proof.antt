@@ -4,7 +4,7 @@ use denote.Ref.{now}
 use Rattle.hoa_text.specs.Tokens.{tokens}
 use Rattle.hoa_text.specs.Header as Hoa
 use Rattle.hoa_header.specs.Answers.{Answered}
-use Rattle.hoa_read.proofs.ReadLaws.{read-long, read-refused, read-bounded, read-opened}
+use Rattle.hoa_read.proofs.ReadLaws.{tells, read-long, read-refused, read-bounded, read-opened}
 use borrow.Author.Needs.{needs}
 use Rattle.hoa_read.proofs.read.Statement.{statement}
 use Rattle.hoa_read.proofs.read.Tie as tie
@@ -13,7 +13,7 @@ refused-requires : tie.Need-refused-requires
 refused-requires c κs = search needs
 
 returns : tie.Need-returns
-returns c = c .refused .ensures ∙ read-long (now (c .before .before .before .args .text)) (c .before .if1 .taken)
+returns c = tells _ _ (c .refused .ensures ∙ read-long (now (c .before .before .before .args .text)) (c .before .if1 .taken))
 
 header-requires : tie.Need-header-requires
 header-requires c κs = search needs
@@ -35,13 +35,13 @@ refused-requires-2 c κs = search needs
 returns-2 : tie.Need-returns-2
 returns-2 c =
     let s = now (c .before .before .before .before .before .before .before .before .args .text) in
-    read-opened s (c .before .before .before .before .before .before .if1 .left) _ _ (subst (Answered s (Hoa.header (tokens s)) (c .before .before .before .before .before .header .result .automaton)) (c .before .before .answer .given .1) (c .before .before .before .before .before .header .ensures)) (c .body .result) (c .body .ensures)
+    tells _ _ (read-opened s (c .before .before .before .before .before .before .if1 .left) _ _ (subst (Answered s (Hoa.header (tokens s)) (c .before .before .before .before .before .header .result .automaton)) (c .before .before .answer .given .1) (c .before .before .before .before .before .header .ensures)) (c .body .result) (c .body .ensures))
 
 returns-3 : tie.Need-returns-3
 returns-3 c =
     let s = now (c .before .before .before .before .before .before .before .before .args .text) in
     let h = subst (Answered s (Hoa.header (tokens s)) (c .before .before .before .before .before .header .result .automaton)) (c .before .before .answer2 .given .1) (c .before .before .before .before .before .header .ensures) in
-    c .refused2 .ensures ∙ read-refused s (c .before .before .before .before .before .before .if1 .left) _ (h .0)
+    tells _ _ (c .refused2 .ensures ∙ read-refused s (c .before .before .before .before .before .before .if1 .left) _ (h .0))
 
 pub read-spec : {M : Type 1} → statement M
 read-spec =

@@ -2,7 +2,7 @@
 use native.Mathlib.Omega.{arith}
 use borrow.Author.Needs.{needs}
 use Rattle.hoa_text.specs.WrittenLength.{text-le}
-use Rattle.meaning.specs.Tests.{passes-so}
+use Rattle.meaning.specs.TestLaws.{passes-so}
 use Rattle.hoa_write.proofs.Answers.{short-answer, outside-answer, text-answer}
 use Rattle.hoa_write.proofs.write.Statement.{statement}
 use Rattle.hoa_write.proofs.write.Tie as tie

@@ -2,7 +2,7 @@
 use mathlib.Core.Bool.{false≢true}
 use native.Mathlib.Omega.{arith}
 use borrow.Author.Needs.{needs}
-use Rattle.meaning.specs.Tests.{fails-not, passes-so}
+use Rattle.meaning.specs.TestLaws.{fails-not, passes-so}
 use Rattle.search.proofs.in_range.Statement.{statement}
 use Rattle.search.proofs.in_range.Tie as tie
 

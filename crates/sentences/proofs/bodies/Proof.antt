@@ -12,20 +12,20 @@ slice-aggregate-placed c = search needs
 placed-requires : tie.Need-placed-requires
 placed-requires c κs = search needs
 
-number-requires : tie.Need-number-requires
-number-requires c κs = omega (arith, decimal-at-most-20 (c .before .before .before .before .before .before .before .args .state))
+write-requires : tie.Need-write-requires
+write-requires c κs = search needs
 
 slice-aggregate-word : tie.Need-slice-aggregate-word
 slice-aggregate-word c = search needs
 
 word-requires : tie.Need-word-requires
-word-requires c κs = omega (arith, decimal-at-most-20 (c .before .before .before .before .before .before .before .before .before .before .before .before .args .state))
-
-same-length : tie.Need-same-length
-same-length c = search needs
+word-requires c κs = search needs
 
 returns : tie.Need-returns
-returns c = wrote-then (c .before .before .before .before .before .before .before .before .before .before .before .placed .ensures .0) (wrote-then (c .before .before .before .before .before .before .before .number .ensures) (c .before .before .word .ensures))
+returns c =
+    let p = c .before .before .before .before .before .placed .ensures in
+    let w = c .before .before .before .write .ensures .roomy (omega (arith, p .1, decimal-at-most-20 (c .before .before .before .before .before .before .before .before .args .state))) in
+    wrote-then (p .0) (wrote-then w (c .word .ensures .roomy (omega (arith, p .1, decimal-at-most-20 (c .before .before .before .before .before .before .before .before .args .state)))))
 
 pub bodies-spec : {M : Type 1} → statement M
 bodies-spec =
@@ -33,8 +33,7 @@ bodies-spec =
     (tie.spec
     slice-aggregate-placed
     placed-requires
-    number-requires
+    write-requires
     slice-aggregate-word
     word-requires
-    same-length
     returns)

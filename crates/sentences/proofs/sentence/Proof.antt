@@ -2,6 +2,7 @@
 use mathlib.Core.Path.{_≡_}
 use Rattle.automaton.specs.declared.refusal.Refusal.the-variants.{Outside}
 use Rattle.sentences.proofs.Saying.{said}
+use native.Mathlib.Omega.{arith}
 use borrow.Author.Needs.{needs}
 use Rattle.sentences.proofs.sentence.Statement.{statement}
 use Rattle.sentences.proofs.sentence.Tie as tie
@@ -193,7 +194,7 @@ returns-4 : tie.Need-returns-4
 returns-4 c = said (c .before .before .before .before .before .before .args .place) (c .before .before .before .before .x4 .given .1) (c .placed4 .ensures .0)
 
 returns-5 : tie.Need-returns-5
-returns-5 c = let e : c .before .before .before .before .before .args .x ≡ Outside = cc in said (c .before .before .before .before .before .args .place) e (c .word .ensures)
+returns-5 c = let e : c .before .before .before .before .before .args .x ≡ Outside = cc in said (c .before .before .before .before .before .args .place) e (c .word .ensures .roomy (omega arith))
 
 returns-6 : tie.Need-returns-6
 returns-6 c = said (c .before .before .before .before .before .args .place) (c .before .before .before .x5 .given .1) (c .bodies .ensures)

@@ -1,63 +1,37 @@
 -- `difference` meets its contract.
-use mathlib.Core.Path.{refl}
-use Prim.Native.Nat.{ℕ}
+use native.Mathlib.Omega.{arith}
 use borrow.Author.Needs.{needs}
-use lib.ListN.{length, length-replicate}
-use Rattle.shortest.specs.Seen.{zeros-clear}
-use Rattle.shortest.specs.Product.{product-answer}
+use Rattle.meaning.specs.TestLaws.{fails-not, passes-so}
+use Rattle.shortest.specs.Difference.{Fit}
+use Rattle.shortest.specs.Entries.{answered-unfit, answered-fit}
 use Rattle.shortest.proofs.difference.Statement.{statement}
 use Rattle.shortest.proofs.difference.Tie as tie
 
-slice-aggregate-fill : tie.Need-slice-aggregate-fill
-slice-aggregate-fill c = search needs
+-- the tables are those of two automata
+fit : (c : tie.Else3) → let s = c .before .before .before .before .before .before .before .args in Fit (s .next-a .now) (s .marks-a .now) (s .next-b .now) (s .marks-b .now) (s .letters) (s .start-a) (s .start-b)
+fit c = record {
+  first = passes-so (c .before .before .before .in-range .ensures) (c .before .before .if2 .left);
+  second = passes-so (c .before .in-range2 .ensures) (c .if3 .left);
+  letters = c .before .before .before .before .if1 .left;
+}
 
-slice-aggregate-fill-2 : tie.Need-slice-aggregate-fill-2
-slice-aggregate-fill-2 c = search needs
+returns : tie.Need-returns
+returns c = answered-unfit (λ f. omega (arith, f .letters, c .if1 .taken))
 
-fill-requires : tie.Need-fill-requires
-fill-requires c κs = search needs
+in-range-requires : tie.Need-in-range-requires
+in-range-requires c κs = search needs
 
-mul-root : tie.Need-mul-root
-mul-root c = search needs
+returns-2 : tie.Need-returns-2
+returns-2 c = answered-unfit (λ f. fails-not (c .before .in-range .ensures) (c .if2 .taken) (f .first))
 
-add-root : tie.Need-add-root
-add-root c = search needs
+in-range-requires-2 : tie.Need-in-range-requires-2
+in-range-requires-2 c κs = search needs
 
-mul-root-2 : tie.Need-mul-root-2
-mul-root-2 c = search needs
+returns-3 : tie.Need-returns-3
+returns-3 c = answered-unfit (λ f. fails-not (c .before .in-range2 .ensures) (c .if3 .taken) (f .second))
 
-cast-root : tie.Need-cast-root
-cast-root c = search needs
-
-slice-aggregate-first-lasso : tie.Need-slice-aggregate-first-lasso
-slice-aggregate-first-lasso c = search needs
-
-slice-aggregate-first-lasso-2 : tie.Need-slice-aggregate-first-lasso-2
-slice-aggregate-first-lasso-2 c = search needs
-
-slice-aggregate-first-lasso-3 : tie.Need-slice-aggregate-first-lasso-3
-slice-aggregate-first-lasso-3 c = search needs
-
-slice-aggregate-first-lasso-4 : tie.Need-slice-aggregate-first-lasso-4
-slice-aggregate-first-lasso-4 c = search needs
-
-slice-aggregate-first-lasso-5 : tie.Need-slice-aggregate-first-lasso-5
-slice-aggregate-first-lasso-5 c = search needs
-
-first-lasso-requires : tie.Need-first-lasso-requires
-first-lasso-requires c κs =
-    let T = c .before .before .before .before .before .before .before .before .before .before .fill .ensures in (
-      record {
-        table-size = T .plain-size;
-        hits-size = search needs;
-        seen-size = length-replicate {A = ℕ} 65536 0;
-        places-size = length-replicate {A = ℕ} 65538 0;
-        letters = c .before .before .before .before .before .before .before .before .before .before .before .before .before .before .before .pre .2;
-        clear = zeros-clear 65536;
-      },
-      T .table-size,
-      length-replicate {A = ℕ} 65538 0,
-    )
+first-word-requires : tie.Need-first-word-requires
+first-word-requires c κs = fit (c .before .before)
 
 same-length : tie.Need-same-length
 same-length c = search needs
@@ -65,29 +39,19 @@ same-length c = search needs
 same-length-2 : tie.Need-same-length-2
 same-length-2 c = search needs
 
-returns : tie.Need-returns
-returns c =
-    let s = c .before .before .before .before .before .before .before .before .before .before .before .before .before .before .before .before .before .before .before .before .before .before .before in
-    let f = c .before .before .before .before .before .before .before .first-lasso in
-    product-answer (c .before .before .before .before .before .before .before .before .before .before .before .before .before .before .before .before .before .before .fill .ensures) (s .pre .0) (s .pre .1) (s .pre .2) refl (s .args .hits .now) (length (s .args .prefix .now)) (length (s .args .cycle .now)) (s .args .prefix .now) (f .last .1 .1 .1 .1 .1 .1 .1 .1 .0) (s .args .cycle .now) (f .last .1 .1 .1 .1 .1 .1 .1 .1 .1 .0) (f .result) (f .ensures)
+returns-4 : tie.Need-returns-4
+returns-4 c = answered-fit (fit (c .before .before .before .before .before .before .before)) (c .before .before .before .before .first-word .ensures)
 
 pub difference-spec : {M : Type 1} → statement M
 difference-spec =
     tie.close
     (tie.spec
-    slice-aggregate-fill
-    slice-aggregate-fill-2
-    fill-requires
-    mul-root
-    add-root
-    mul-root-2
-    cast-root
-    slice-aggregate-first-lasso
-    slice-aggregate-first-lasso-2
-    slice-aggregate-first-lasso-3
-    slice-aggregate-first-lasso-4
-    slice-aggregate-first-lasso-5
-    first-lasso-requires
+    returns
+    in-range-requires
+    returns-2
+    in-range-requires-2
+    returns-3
+    first-word-requires
     same-length
     same-length-2
-    returns)
+    returns-4)

@@ -1,58 +1,50 @@
 -- `names_item` meets its contract.
 use mathlib.Core.Path.{ap, _∙_}
 use native.Mathlib.Omega.{arith}
+use borrow.Author.Needs.{needs}
+use borrow.Author.Tests.{lt-ltb}
 use denote.Ref.{now}
 use Prim.Native.Nat.{_-_}
-use lib.ListN.{length, take, drop}
-use Rattle.hoa_text.specs.Basics.{same}
+use lib.ListN.{length}
+use Rattle.words.specs.Parts.{spells, namesItem}
 use Rattle.words.proofs.Laws.{part-is}
-use borrow.Author.Needs.{needs}
 use Rattle.words.proofs.names_item.Statement.{statement}
 use Rattle.words.proofs.names_item.Tie as tie
+
+returns : tie.Need-returns
+unfolding namesItem
+returns c = rw (c .if1 .taken)
 
 sub-size : tie.Need-sub-size
 sub-size c = search needs
 
-sub-same : tie.Need-sub-same
-sub-same c = search needs
+sub-spells : tie.Need-sub-spells
+sub-spells c = search needs
 
-part-same-start : tie.Need-part-same-start
-part-same-start c = search needs
+part-spells-start : tie.Need-part-spells-start
+part-spells-start c = search needs
 
-part-same-end : tie.Need-part-same-end
-part-same-end c = search needs
+part-spells-end : tie.Need-part-spells-end
+part-spells-end c = search needs
 
-sub-same-2 : tie.Need-sub-same-2
-sub-same-2 c = search needs
+spells-requires : tie.Need-spells-requires
+spells-requires c κs = search needs
 
-part-same-start-2 : tie.Need-part-same-start-2
-part-same-start-2 c = search needs
-
-part-same-end-2 : tie.Need-part-same-end-2
-part-same-end-2 c = search needs
-
-same-requires : tie.Need-same-requires
-same-requires c κs = search needs
-
-returns : tie.Need-returns
-returns c =
+returns-2 : tie.Need-returns-2
+unfolding namesItem
+returns-2 c =
     let a = c .before .before .before .before .before .args in
     let w = now (a .item) in
-    let n = length w - 1 in
-    let u = take (a .end - a .start) (drop (a .start) (now (a .text))) in
-    c .same .ensures ∙ ap (λ v. same v u) (part-is 0 n w (omega arith))
-    ∙ ap (same (take n w)) (part-is (a .start) (a .end) (now (a .text)) (omega (arith, c .before .before .before .before .before .pre)))
+    rw (lt-ltb 0 (length w) (omega arith)) (c .spells .ensures ∙ ap (spells (now (a .text)) (a .start) (a .end)) (part-is 0 (length w - 1) w (omega arith)))
 
 pub names-item-spec : {M : Type 1} → statement M
 names-item-spec =
     tie.close
     (tie.spec
+    returns
     sub-size
-    sub-same
-    part-same-start
-    part-same-end
-    sub-same-2
-    part-same-start-2
-    part-same-end-2
-    same-requires
-    returns)
+    sub-spells
+    part-spells-start
+    part-spells-end
+    spells-requires
+    returns-2)

@@ -1,15 +1,21 @@
 -- `spells` meets its contract.
 use mathlib.Core.Path.{ap, _∙_}
-use native.Mathlib.Omega.{arith}
+use borrow.Author.Needs.{needs}
+use borrow.Author.Tests.{le-leb, lt-leb}
 use denote.Ref.{now}
 use Rattle.hoa_text.specs.Basics.{same}
+use Rattle.words.specs.Parts.{spells}
 use Rattle.words.proofs.Laws.{part-is}
-use borrow.Author.Needs.{needs}
 use Rattle.words.proofs.spells.Statement.{statement}
 use Rattle.words.proofs.spells.Tie as tie
 
-sub-same : tie.Need-sub-same
-sub-same c = search needs
+returns : tie.Need-returns
+unfolding spells
+returns c = rw (lt-leb _ _ (c .if1 .taken))
+
+returns-2 : tie.Need-returns-2
+unfolding spells
+returns-2 c = rw (le-leb _ _ (c .before .if1 .left), lt-leb _ _ (c .if2 .taken))
 
 part-same-start : tie.Need-part-same-start
 part-same-start c = search needs
@@ -20,10 +26,13 @@ part-same-end c = search needs
 same-requires : tie.Need-same-requires
 same-requires c κs = search needs
 
-returns : tie.Need-returns
-returns c =
-    let a = c .before .before .before .before .args in
-    c .same .ensures ∙ ap (same (now (a .word))) (part-is (a .start) (a .end) (now (a .text)) (omega (arith, c .before .before .before .before .pre)))
+returns-3 : tie.Need-returns-3
+unfolding spells
+returns-3 c =
+    let a = c .before .before .before .before .before .before .args in
+    let h = c .before .before .before .if1 .left in
+    rw (le-leb (a .start) (a .end) h, le-leb _ _ (c .before .before .if2 .left)) (c .same .ensures ∙ ap (same (now (a .word))) (part-is (a .start) (a .end) (now (a .text)) h))
 
 pub spells-spec : {M : Type 1} → statement M
-spells-spec = tie.close (tie.spec sub-same part-same-start part-same-end same-requires returns)
+spells-spec =
+    tie.close (tie.spec returns returns-2 part-same-start part-same-end same-requires returns-3)

@@ -1,10 +1,10 @@
 -- `extension` meets its contract.
-use mathlib.Core.Path.{refl, ap, _∙_}
-use lib.IntN.{pos}
+use mathlib.Core.Path.{refl, _∙_}
 use lib.Bits.{or-lt}
 use lib.ListN.{length-set}
 use Rattle.decimal.specs.Writing.{wrote-length}
-use Rattle.clause_list.proofs.Laws.{stored, wrote-after, premise-short, premise-eight}
+use Rattle.clause_list.proofs.Laws.{stored, wrote-after, premise-short, premise-eight, positive-of}
+use borrow.Author.Needs.{needs}
 use native.Mathlib.Omega.{arith}
 use Rattle.clause_list.proofs.groups.extension.Statement.{statement}
 use Rattle.clause_list.proofs.groups.extension.Tie as tie
@@ -17,7 +17,7 @@ path-number-requires c κs = let h = c .before .before .before .before .before .
     (c .before .before .before .before .before .pre .0, (h .q-lt, h .u-lt, h .t-lt, c .before .before .before .before .before .pre .1 .0 .1, or-lt _ _ _ (h .i-lt) (h .k-lt), or-lt _ _ _ (h .j-lt) (c .before .before .before .before .before .pre .1 .0 .2), refl))
 
 positive-requires : tie.Need-positive-requires
-positive-requires c κs = omega (arith, c .path-number .ensures .small)
+positive-requires c κs = search needs
 
 mul-t13 : tie.Need-mul-t13
 mul-t13 c = omega (arith, premise-eight _ _ (c .before .before .before .before .before .before .before .pre .0) (c .before .before .before .before .before .premise .ensures))
@@ -32,7 +32,7 @@ same-length : tie.Need-same-length
 same-length c = simp length-set (wrote-length (c .before .before .before .before .before .premise .ensures))
 
 returns : tie.Need-returns
-returns c = wrote-after (c .before .before .before .before .before .premise .ensures) (premise-short _ _ (c .before .before .before .before .before .before .before .pre .0) (c .before .before .before .before .before .premise .ensures) (c .before .before .before .before .before .before .before .pre .1 .1)) (stored (c .positive .ok) ∙ c .positive .ensures ∙ ap pos (c .before .path-number .ensures .is))
+returns c = wrote-after (c .before .before .before .before .before .premise .ensures) (premise-short _ _ (c .before .before .before .before .before .before .before .pre .0) (c .before .before .before .before .before .premise .ensures) (c .before .before .before .before .before .before .before .pre .1 .1)) (stored (c .positive .ok) ∙ positive-of (c .before .path-number .ensures) (c .positive .ensures))
 
 pub extension-spec : {M : Type 1} → statement M
 extension-spec =

@@ -1,9 +1,9 @@
 -- `initial` meets its contract.
-use mathlib.Core.Path.{refl, ap, _∙_}
-use lib.IntN.{pos}
+use mathlib.Core.Path.{refl, _∙_}
 use lib.Pow.{pow-pos}
 use lib.ListN.{length-set}
-use Rattle.clause_list.proofs.Laws.{stored, wrote-first}
+use Rattle.clause_list.proofs.Laws.{stored, wrote-first, positive-of}
+use borrow.Author.Needs.{needs}
 use native.Mathlib.Omega.{arith}
 use Rattle.clause_list.proofs.groups.initial.Statement.{statement}
 use Rattle.clause_list.proofs.groups.initial.Tie as tie
@@ -12,7 +12,7 @@ path-number-requires : tie.Need-path-number-requires
 path-number-requires c κs = let f = c .pre .0 in (f, (f .n-some, c .pre .1 .0, f .n-some, c .pre .1 .0, pow-pos _, pow-pos _, refl))
 
 positive-requires : tie.Need-positive-requires
-positive-requires c κs = omega (arith, c .path-number .ensures .small)
+positive-requires c κs = search needs
 
 slice-set-from-out : tie.Need-slice-set-from-out
 slice-set-from-out c = omega arith
@@ -21,7 +21,7 @@ same-length : tie.Need-same-length
 same-length c = simp length-set
 
 returns : tie.Need-returns
-returns c = wrote-first (omega arith) (stored (c .positive .ok) ∙ c .positive .ensures ∙ ap pos (c .before .path-number .ensures .is))
+returns c = wrote-first (omega arith) (stored (c .positive .ok) ∙ positive-of (c .before .path-number .ensures) (c .positive .ensures))
 
 pub initial-spec : {M : Type 1} → statement M
 initial-spec =

@@ -1,9 +1,9 @@
 -- `successor` meets its contract.
-use mathlib.Core.Path.{refl, ap, _∙_}
-use lib.IntN.{pos, negℤ}
+use mathlib.Core.Path.{refl, _∙_}
 use lib.Pow.{pow-pos}
 use lib.ListN.{length-set}
-use Rattle.clause_list.proofs.Laws.{stored, wrote-three}
+use Rattle.clause_list.proofs.Laws.{stored, wrote-three, positive-of, negative-of}
+use borrow.Author.Needs.{needs}
 use native.Mathlib.Omega.{arith}
 use Rattle.clause_list.proofs.groups.successor.Statement.{statement}
 use Rattle.clause_list.proofs.groups.successor.Tie as tie
@@ -12,7 +12,7 @@ path-number-requires : tie.Need-path-number-requires
 path-number-requires c κs = let f = c .pre .0 in let h = c .pre .1 .0 in (f, (h .q-lt, h .u-lt, h .q-lt, h .u-lt, pow-pos _, pow-pos _, refl))
 
 negative-requires : tie.Need-negative-requires
-negative-requires c κs = omega (arith, c .path-number .ensures .small)
+negative-requires c κs = search needs
 
 slice-set-from-out : tie.Need-slice-set-from-out
 slice-set-from-out c = omega arith
@@ -21,7 +21,7 @@ step-number-requires : tie.Need-step-number-requires
 step-number-requires c κs = let h = c .before .before .pre .1 .0 in (c .before .before .pre .0, (h .q-lt, h .l-lt, h .p-lt))
 
 negative-requires-2 : tie.Need-negative-requires-2
-negative-requires-2 c κs = omega (arith, c .step-number .ensures .small)
+negative-requires-2 c κs = search needs
 
 slice-set-from-out-2 : tie.Need-slice-set-from-out-2
 slice-set-from-out-2 c = simp length-set (omega arith)
@@ -30,7 +30,7 @@ path-number-requires-2 : tie.Need-path-number-requires-2
 path-number-requires-2 c κs = let f = c .before .before .before .before .pre .0 in let h = c .before .before .before .before .pre .1 .0 in (f, (h .p-lt, h .w-lt, h .p-lt, h .w-lt, pow-pos _, pow-pos _, refl))
 
 positive-requires : tie.Need-positive-requires
-positive-requires c κs = omega (arith, c .path-number2 .ensures .small)
+positive-requires c κs = search needs
 
 slice-set-from-out-3 : tie.Need-slice-set-from-out-3
 slice-set-from-out-3 c = simp length-set (omega arith)
@@ -40,9 +40,9 @@ same-length c = simp length-set
 
 returns : tie.Need-returns
 returns c = wrote-three (omega arith)
-    (stored (c .before .before .before .before .negative .ok) ∙ c .before .before .before .before .negative .ensures ∙ ap (λ k. negℤ (pos k)) (c .before .before .before .before .before .path-number .ensures .is))
-    (stored (c .before .before .negative2 .ok) ∙ c .before .before .negative2 .ensures ∙ ap (λ k. negℤ (pos k)) (c .before .before .before .step-number .ensures .is))
-    (stored (c .positive .ok) ∙ c .positive .ensures ∙ ap pos (c .before .path-number2 .ensures .is))
+    (stored (c .before .before .before .before .negative .ok) ∙ negative-of (c .before .before .before .before .before .path-number .ensures) (c .before .before .before .before .negative .ensures))
+    (stored (c .before .before .negative2 .ok) ∙ negative-of (c .before .before .before .step-number .ensures) (c .before .before .negative2 .ensures))
+    (stored (c .positive .ok) ∙ positive-of (c .before .path-number2 .ensures) (c .positive .ensures))
 
 pub successor-spec : {M : Type 1} → statement M
 successor-spec =

@@ -1,11 +1,11 @@
 -- `totality` meets its contract. The invariant: the first p steps stand at the start of the buffer.
 use Prim.Native.Nat.{_-_, _≤_}
-use mathlib.Core.Path.{_≡_, refl, ap, _∙_, subst}
-use lib.IntN.{pos}
+use mathlib.Core.Path.{_≡_, refl, _∙_, subst}
 use Rattle.decimal.specs.Wrote.{Wrote}
 use Rattle.decimal.specs.Writing.{wrote-length}
 use Rattle.clause_list.specs.Groups.{totalityOf}
-use Rattle.clause_list.proofs.Laws.{stored, wrote-each-none, wrote-each-more}
+use Rattle.clause_list.proofs.Laws.{stored, wrote-each-none, wrote-each-more, positive-of}
+use borrow.Author.Needs.{needs}
 use native.Mathlib.Omega.{arith}
 use Rattle.clause_list.proofs.groups.totality.Statement.{statement}
 use Rattle.clause_list.proofs.groups.totality.Tie as tie
@@ -23,7 +23,7 @@ step-number-requires : tie.Need-step-number-requires Inv-loop μ-loop
 step-number-requires c κs = (c .before .before .before .pre .0, (c .before .before .before .pre .1 .0, c .before .before .before .pre .1 .1, c .if1 .taken))
 
 positive-requires : tie.Need-positive-requires Inv-loop μ-loop
-positive-requires c κs = omega (arith, c .step-number .ensures .small)
+positive-requires c κs = search needs
 
 mul-t10 : tie.Need-mul-t10 Inv-loop μ-loop
 mul-t10 c = omega (arith, c .before .before .before .before .before .pre .0 .n-le)
@@ -38,7 +38,7 @@ loop-less : tie.Need-loop-less Inv-loop μ-loop
 loop-less c = omega arith
 
 loop-again : tie.Need-loop-again Inv-loop μ-loop
-loop-again c = (omega arith, wrote-each-more _ _ (c .before .before .before .before .loop .inv .1) (omega (arith, c .before .before .before .before .before .pre .0 .n-le)) refl (stored (c .positive .ok) ∙ c .positive .ensures ∙ ap pos (c .before .step-number .ensures .is)))
+loop-again c = (omega arith, wrote-each-more _ _ (c .before .before .before .before .loop .inv .1) (omega (arith, c .before .before .before .before .before .pre .0 .n-le)) refl (stored (c .positive .ok) ∙ positive-of (c .before .step-number .ensures) (c .positive .ensures)))
 
 same-length : tie.Need-same-length Inv-loop μ-loop
 same-length c = wrote-length (c .before .before .loop .inv .1)

@@ -1,7 +1,7 @@
 -- `extension_indices` meets its contract.
 use mathlib.Core.Path.{sym, subst}
-use Rattle.clause_list.specs.Groups.{Within}
-use Rattle.clause_list.specs.Indices.{extension-within}
+use Rattle.clause_list.specs.Indices.{Within}
+use Rattle.clause_list.specs.Digits.{extension-within}
 use Rattle.clause_list.proofs.Places.{extension-is}
 use native.Mathlib.Omega.{arith}
 use Rattle.clause_list.proofs.indices.extension_indices.Statement.{statement}

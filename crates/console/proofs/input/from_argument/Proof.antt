@@ -1,5 +1,8 @@
 -- `input::from_argument` meets its contract.
-use Rattle.console.specs.Given.{unread}
+use mathlib.Core.Path.{sym, ap, _∙_}
+use mathlib.Core.Bool.{true≢false}
+use Rattle.console.specs.declared.input.Got.{Got}
+use Rattle.console.specs.Got.{unopened}
 use borrow.Author.Needs.{needs}
 use Rattle.console.proofs.input.from_argument.Statement.{statement}
 use Rattle.console.proofs.input.from_argument.Tie as tie
@@ -13,11 +16,16 @@ slice-aggregate-argument c = search needs
 argument-requires : tie.Need-argument-requires
 argument-requires c κs = search needs
 
+unread-requires : tie.Need-unread-requires
+unread-requires c κs = search needs
+
 none-requires : tie.Need-none-requires
 none-requires c κs = search needs
 
 returns : tie.Need-returns
-returns c = unread (c .none .ensures)
+returns c =
+    let e = c .before .unread .ensures in
+    (unopened e, record { text = λ t. absurd (true≢false (sym t ∙ ap (λ (g : Got). g .whole) e)); unread = λ _. c .none .ensures })
 
 slice-aggregate-first : tie.Need-slice-aggregate-first
 slice-aggregate-first c = search needs
@@ -41,6 +49,7 @@ from-argument-spec =
     buffer-requires
     slice-aggregate-argument
     argument-requires
+    unread-requires
     none-requires
     returns
     slice-aggregate-first

@@ -1,5 +1,6 @@
 -- `input::from_input` meets its contract.
-use Rattle.console.specs.Given.{text, unread}
+use mathlib.Core.Path.{sym, subst}
+use Rattle.console.specs.Got.{InputRead}
 use borrow.Author.Needs.{needs}
 use Rattle.console.proofs.input.from_input.Statement.{statement}
 use Rattle.console.proofs.input.from_input.Tie as tie
@@ -7,36 +8,24 @@ use Rattle.console.proofs.input.from_input.Tie as tie
 read-input-requires : tie.Need-read-input-requires
 read-input-requires c κs = search needs
 
-none-requires : tie.Need-none-requires
-none-requires c κs = search needs
+slice-aggregate-judge-read : tie.Need-slice-aggregate-judge-read
+slice-aggregate-judge-read c = search needs
+
+judge-read-requires : tie.Need-judge-read-requires
+judge-read-requires c κs = search needs
 
 same-length : tie.Need-same-length
 same-length c = search needs
 
 returns : tie.Need-returns
-returns c = unread (c .none .ensures)
-
-slice-aggregate-judge : tie.Need-slice-aggregate-judge
-slice-aggregate-judge c = search needs
-
-judge-requires : tie.Need-judge-requires
-judge-requires c κs = search needs
-
-same-length-2 : tie.Need-same-length-2
-same-length-2 c = search needs
-
-returns-2 : tie.Need-returns-2
-returns-2 c = text _ (c .before .before .before .before .before .before .before .read-input .ensures) (c .judge .ensures)
+returns c = (subst (InputRead _ 0) (sym (c .judge-read .ensures .0)) (c .before .before .before .before .before .read-input .ensures), c .judge-read .ensures .1)
 
 pub from-input-spec : {M : Type 1} → statement M
 from-input-spec =
     tie.close
     (tie.spec
     read-input-requires
-    none-requires
+    slice-aggregate-judge-read
+    judge-read-requires
     same-length
-    returns
-    slice-aggregate-judge
-    judge-requires
-    same-length-2
-    returns-2)
+    returns)

@@ -29,13 +29,13 @@ turned-down-requires c κs = search needs
 returns : tie.Need-returns
 returns c =
     let a = c .before .before .before .before .before .before .before .args in
-    let e = c .before .before .before .read .ensures ∙ ap (λ (s : List ℕ). told (read s)) (c .before .before .before .before .first .ensures) in
+    let e = c .before .before .before .read .ensures .is ∙ ap (λ (s : List ℕ). told (read s)) (c .before .before .before .before .first .ensures) in
     read-given (read (take (a .length) (now (a .text)))) _ e (c .before .match .keys1)
 
 returns-2 : tie.Need-returns-2
 returns-2 c =
     let a = c .before .before .before .before .before .before .before .before .before .args in
-    let e = c .before .before .before .before .before .read .ensures ∙ ap (λ (s : List ℕ). told (read s)) (c .before .before .before .before .before .before .first .ensures) in
+    let e = c .before .before .before .before .before .read .ensures .is ∙ ap (λ (s : List ℕ). told (read s)) (c .before .before .before .before .before .before .first .ensures) in
     c .turned-down .ensures ∙ refused-given (read (take (a .length) (now (a .text)))) _ _ e (c .before .before .answer .given .1)
 
 pub judge-spec : {M : Type 1} → statement M

@@ -1,7 +1,8 @@
 -- `input::number` meets its contract.
-use mathlib.Core.Path.{refl, ap, _∙_}
+use mathlib.Core.Path.{refl, sym, ap, _∙_}
+use mathlib.Core.Bool.{true≢false, false≢true}
+use borrow.Author.Tests.{not-true, not-false}
 use Rattle.numerals.specs.Numbers.{numberOf}
-use Rattle.console.specs.Given.{word, missing}
 use borrow.Author.Needs.{needs}
 use Rattle.console.proofs.input.number.Statement.{statement}
 use Rattle.console.proofs.input.number.Tie as tie
@@ -13,7 +14,7 @@ same-length : tie.Need-same-length
 same-length c = search needs
 
 returns : tie.Need-returns
-returns c = missing refl
+returns c = (c .before .before .before .before .argument .ensures, record { word = λ e. absurd (true≢false (sym e ∙ not-true _ (c .if1 .taken))); missing = λ _. refl })
 
 first-requires : tie.Need-first-requires
 first-requires c κs = search needs
@@ -25,7 +26,10 @@ same-length-2 : tie.Need-same-length-2
 same-length-2 c = search needs
 
 returns-2 : tie.Need-returns-2
-returns-2 c = word _ (c .before .before .before .before .before .before .before .argument .ensures) (c .parse .ensures ∙ ap numberOf (c .before .first .ensures))
+returns-2 c = (
+  c .before .before .before .before .before .before .before .argument .ensures,
+  record { word = λ _. c .parse .ensures ∙ ap numberOf (c .before .first .ensures); missing = λ e. absurd (false≢true (sym e ∙ not-false _ (c .before .before .before .if1 .left))) },
+)
 
 pub number-spec : {M : Type 1} → statement M
 number-spec =

@@ -1,5 +1,8 @@
 -- `input::read_all` meets its contract: the buffer keeps its length, and its unwritten rest falls.
-use mathlib.Core.Path.{_∙_, _≡_}
+use mathlib.Core.Path.{_≡_, refl, _∙_}
+use mathlib.Core.List.{[]}
+use Rattle.console.specs.Got.{full}
+use Rattle.console.specs.Reading.{once-le}
 use Rattle.console.proofs.Rest as rest
 use Prim.Native.Nat.{_-_, _≤_}
 use native.Mathlib.Omega.{arith}
@@ -9,13 +12,13 @@ use Rattle.console.proofs.input.read_all.Statement.{statement}
 use Rattle.console.proofs.input.read_all.Tie as tie
 
 abbrev Inv-loop : tie.InvT-loop
-Inv-loop fd name text₀ filled₀ text filled = (filled ≤ length text) × (length text ≡ length text₀)
+Inv-loop fd name text₀ filled₀ text filled = (filled ≤ length text) × (length text ≡ length text₀) × rest.Begun (length text) filled
 
 abbrev μ-loop : tie.MeasureT-loop
 μ-loop fd name text₀ filled₀ text filled = length text - filled
 
 loop-holds : tie.Need-loop-holds Inv-loop μ-loop
-loop-holds c = search needs
+loop-holds c = (omega arith, refl, λ r i. i)
 
 sub-read-some : tie.Need-sub-read-some Inv-loop μ-loop
 sub-read-some c = search needs
@@ -30,25 +33,53 @@ read-some-requires : tie.Need-read-some-requires Inv-loop μ-loop
 read-some-requires c κs = search needs
 
 same-length : tie.Need-same-length Inv-loop μ-loop
-same-length c = let l = c .before .before .before .before .before .before .before .loop in rest.same-length (l .text) (l .filled) (l .inv .0) (c .before .before .before .before .read-some .last .1 .1 .0) (c .before .before .before .before .read-some .kept .1 .1 .0) ∙ l .inv .1
+same-length c =
+    let l = c .before .before .before .before .before .before .before .loop in
+    let s = c .before .before .before .before .read-some in
+    rest.same-length (l .text) (l .filled) (l .inv .0) (s .last .1 .1 .0) (s .kept .1 .1 .0) ∙ l .inv .1
 
 returns : tie.Need-returns Inv-loop μ-loop
-returns c = let l = c .before .before .before .before .before .before .before .loop in let e = rest.same-length (l .text) (l .filled) (l .inv .0) (c .before .before .before .before .read-some .last .1 .1 .0) (c .before .before .before .before .read-some .kept .1 .1 .0) in omega (arith, e, l .inv .0)
+returns c =
+    let l = c .before .before .before .before .before .before .before .loop in
+    let s = c .before .before .before .before .read-some in
+    rest.stops (l .text) (l .filled) (c .before .before .before .before .before .before .loop-test .taken) (s .last .1 .1 .0) (s .kept .1 .1 .0) (l .inv .2) (s .ensures)
+    (c .if1 .taken)
 
 add-filled : tie.Need-add-filled Inv-loop μ-loop
-add-filled c = let l = c .before .before .before .before .before .before .before .before .loop in record { fits = omega (arith, rest.rest-length (l .text) (l .filled) (l .inv .0), c .before .before .before .before .before .read-some .ensures, c .before .before .before .before .before .before .before .before .before .before .before .good) }
+add-filled c =
+    let l = c .before .before .before .before .before .before .before .before .loop in
+    record {
+      fits = omega (
+        arith,
+        rest.rest-length (l .text) (l .filled) (l .inv .0),
+        once-le (c .before .before .before .before .before .read-some .ensures),
+        c .before .before .before .before .before .before .before .before .before .before .before .good,
+      );
+    }
 
 loop-less : tie.Need-loop-less Inv-loop μ-loop
-loop-less c = let l = c .before .before .before .before .before .before .before .before .loop in let e = rest.same-length (l .text) (l .filled) (l .inv .0) (c .before .before .before .before .before .read-some .last .1 .1 .0) (c .before .before .before .before .before .read-some .kept .1 .1 .0) in omega arith
+loop-less c =
+    let l = c .before .before .before .before .before .before .before .before .loop in
+    let s = c .before .before .before .before .before .read-some in
+    let e = rest.same-length (l .text) (l .filled) (l .inv .0) (s .last .1 .1 .0) (s .kept .1 .1 .0) in
+    omega arith
 
 loop-again : tie.Need-loop-again Inv-loop μ-loop
-loop-again c = let l = c .before .before .before .before .before .before .before .before .loop in let e = rest.same-length (l .text) (l .filled) (l .inv .0) (c .before .before .before .before .before .read-some .last .1 .1 .0) (c .before .before .before .before .before .read-some .kept .1 .1 .0) in (omega (arith, rest.rest-length (l .text) (l .filled) (l .inv .0), c .before .before .before .before .before .read-some .ensures, e), e ∙ l .inv .1)
+loop-again c =
+    let l = c .before .before .before .before .before .before .before .before .loop in
+    let s = c .before .before .before .before .before .read-some in
+    let e = rest.same-length (l .text) (l .filled) (l .inv .0) (s .last .1 .1 .0) (s .kept .1 .1 .0) in (
+      omega (arith, rest.rest-length (l .text) (l .filled) (l .inv .0), once-le (s .ensures), e),
+      e ∙ l .inv .1,
+      rest.goes-on (l .text) (l .filled) (c .before .before .before .before .before .before .before .loop-test .taken) (s .last .1 .1 .0) (s .kept .1 .1 .0) (l .inv .2) (s .ensures)
+          (c .before .if1 .left),
+    )
 
 same-length-2 : tie.Need-same-length-2 Inv-loop μ-loop
-same-length-2 c = search needs
+same-length-2 c = c .before .loop .inv .1
 
 returns-2 : tie.Need-returns-2 Inv-loop μ-loop
-returns-2 c = search needs
+returns-2 c = c .before .loop .inv .2 _ (record { answers = []; fills = full (c .loop-test .left) })
 
 pub read-all-spec : {M : Type 1} → statement M
 read-all-spec =

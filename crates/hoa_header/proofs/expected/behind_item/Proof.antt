@@ -1,10 +1,11 @@
 -- `expected::behind_item` meets its contract.
-use mathlib.Core.Path.{sym, _∙_, subst}
+use mathlib.Core.Path.{_∙_, subst}
 use Prim.Native.Nat.{_-_}
 use native.Mathlib.Omega.{arith}
 use borrow.Author.Needs.{needs}
 use denote.Ref.{now}
 use lib.ListN.{length, take}
+use Rattle.words.specs.Inside.{item-named}
 use Rattle.scan.specs.Answers.{Reads}
 use Rattle.hoa_header.proofs.Tokens.{item-stands, item-differs, item-missing}
 use Rattle.hoa_header.proofs.expected.behind_item.Statement.{statement}
@@ -17,9 +18,7 @@ enum-known-start : tie.Need-enum-known-start
 enum-known-start c = search needs
 
 names-item-requires : tie.Need-names-item-requires
-names-item-requires c κs =
-    let h = subst (Reads _ _) (c .before .start .given .1) (c .before .before .before .next-token .ensures) in
-    (omega (arith, h .lies .longer), omega (arith, h .lies .to), c .before .before .before .before .before .before .pre)
+names-item-requires c κs = search needs
 
 add-result : tie.Need-add-result
 add-result c =
@@ -29,12 +28,14 @@ add-result c =
 returns : tie.Need-returns
 returns c =
     let w = now (c .before .before .before .before .before .before .before .before .args .item) in
-    item-stands (take (length w - 1) w) _ _ _ _ (subst (Reads _ _) (c .before .before .before .start .given .1) (c .before .before .before .before .before .next-token .ensures)) (sym (c .before .names-item .ensures) ∙ c .if1 .taken)
+    let h = subst (Reads _ _) (c .before .before .before .start .given .1) (c .before .before .before .before .before .next-token .ensures) in
+    item-stands (take (length w - 1) w) _ _ _ _ h (item-named _ _ _ w _ (c .before .names-item .ensures) (omega (arith, h .lies .longer)) (omega (arith, h .lies .to)) (c .before .before .before .before .before .before .before .before .pre) ∙ c .if1 .taken)
 
 returns-2 : tie.Need-returns-2
 returns-2 c =
     let w = now (c .before .before .before .before .before .before .before .before .args .item) in
-    item-differs (take (length w - 1) w) _ _ _ _ (subst (Reads _ _) (c .before .before .before .start .given .1) (c .before .before .before .before .before .next-token .ensures)) (sym (c .before .names-item .ensures) ∙ c .if1 .left)
+    let h = subst (Reads _ _) (c .before .before .before .start .given .1) (c .before .before .before .before .before .next-token .ensures) in
+    item-differs (take (length w - 1) w) _ _ _ _ h (item-named _ _ _ w _ (c .before .names-item .ensures) (omega (arith, h .lies .longer)) (omega (arith, h .lies .to)) (c .before .before .before .before .before .before .before .before .pre) ∙ c .if1 .left)
 
 returns-3 : tie.Need-returns-3
 returns-3 c =

@@ -1,8 +1,10 @@
 -- `items::item` meets its contract.
-use mathlib.Core.Path.{refl, sym, _∙_}
+use mathlib.Core.Path.{refl, _∙_}
+use native.Mathlib.Omega.{arith}
 use borrow.Author.Tests.{not-true, not-false}
 use borrow.Author.Needs.{needs}
 use denote.Ref.{now}
+use Rattle.words.specs.Inside.{item-named}
 use Rattle.hoa_names.specs.declared.Step.the-variants.{Next}
 use Rattle.hoa_header.proofs.Turns.{turn-states, turn-start, turn-names, turn-sets, turn-other, turn-skipped}
 use Rattle.hoa_header.proofs.items.item.Statement.{statement}
@@ -23,7 +25,8 @@ states-item-requires c κs = search needs
 returns : tie.Need-returns
 returns c =
     let a = c .before .before .before .before .before .args in
-    turn-states (now (a .text)) (a .start) (a .colon) (a .items) (c .states-item .result) (sym (c .before .before .names-item .ensures) ∙ c .before .if1 .taken) (c .states-item .ensures)
+    let p = c .before .before .before .before .before .pre in
+    turn-states (now (a .text)) (a .start) (a .colon) (a .items) (c .states-item .result) (item-named _ _ _ _ _ (c .before .before .names-item .ensures) (omega arith) (omega arith) (omega arith) ∙ c .before .if1 .taken) (c .states-item .ensures)
 
 slice-aggregate-names-item-2 : tie.Need-slice-aggregate-names-item-2
 slice-aggregate-names-item-2 c = search needs
@@ -40,7 +43,8 @@ start-item-requires c κs = search needs
 returns-2 : tie.Need-returns-2
 returns-2 c =
     let a = c .before .before .before .before .before .before .before .before .args in
-    turn-start (now (a .text)) (a .start) (a .colon) (a .items) (c .start-item .result) (sym (c .before .before .before .before .before .names-item .ensures) ∙ c .before .before .before .before .if1 .left) (sym (c .before .before .names-item2 .ensures) ∙ c .before .if2 .taken) (c .start-item .ensures)
+    let p = c .before .before .before .before .before .before .before .before .pre in
+    turn-start (now (a .text)) (a .start) (a .colon) (a .items) (c .start-item .result) (item-named _ _ _ _ _ (c .before .before .before .before .before .names-item .ensures) (omega arith) (omega arith) (omega arith) ∙ c .before .before .before .before .if1 .left) (item-named _ _ _ _ _ (c .before .before .names-item2 .ensures) (omega arith) (omega arith) (omega arith) ∙ c .before .if2 .taken) (c .start-item .ensures)
 
 slice-aggregate-names-item-3 : tie.Need-slice-aggregate-names-item-3
 slice-aggregate-names-item-3 c = search needs
@@ -57,7 +61,8 @@ ap-item-requires c κs = search needs
 returns-3 : tie.Need-returns-3
 returns-3 c =
     let a = c .before .before .before .before .before .before .before .before .before .before .before .args in
-    turn-names (now (a .text)) (a .start) (a .colon) (a .items) (c .ap-item .result) (sym (c .before .before .before .before .before .before .before .before .names-item .ensures) ∙ c .before .before .before .before .before .before .before .if1 .left) (sym (c .before .before .before .before .before .names-item2 .ensures) ∙ c .before .before .before .before .if2 .left) (sym (c .before .before .names-item3 .ensures) ∙ c .before .if3 .taken) (c .ap-item .ensures)
+    let p = c .before .before .before .before .before .before .before .before .before .before .before .pre in
+    turn-names (now (a .text)) (a .start) (a .colon) (a .items) (c .ap-item .result) (item-named _ _ _ _ _ (c .before .before .before .before .before .before .before .before .names-item .ensures) (omega arith) (omega arith) (omega arith) ∙ c .before .before .before .before .before .before .before .if1 .left) (item-named _ _ _ _ _ (c .before .before .before .before .before .names-item2 .ensures) (omega arith) (omega arith) (omega arith) ∙ c .before .before .before .before .if2 .left) (item-named _ _ _ _ _ (c .before .before .names-item3 .ensures) (omega arith) (omega arith) (omega arith) ∙ c .before .if3 .taken) (c .ap-item .ensures)
 
 slice-aggregate-names-item-4 : tie.Need-slice-aggregate-names-item-4
 slice-aggregate-names-item-4 c = search needs
@@ -74,7 +79,8 @@ acceptance-item-requires c κs = search needs
 returns-4 : tie.Need-returns-4
 returns-4 c =
     let a = c .before .before .before .before .before .before .before .before .before .before .before .before .before .before .args in
-    turn-sets (now (a .text)) (a .start) (a .colon) (a .items) (c .acceptance-item .result) (sym (c .before .before .before .before .before .before .before .before .before .before .before .names-item .ensures) ∙ c .before .before .before .before .before .before .before .before .before .before .if1 .left) (sym (c .before .before .before .before .before .before .before .before .names-item2 .ensures) ∙ c .before .before .before .before .before .before .before .if2 .left) (sym (c .before .before .before .before .before .names-item3 .ensures) ∙ c .before .before .before .before .if3 .left) (sym (c .before .before .names-item4 .ensures) ∙ c .before .if4 .taken) (c .acceptance-item .ensures)
+    let p = c .before .before .before .before .before .before .before .before .before .before .before .before .before .before .pre in
+    turn-sets (now (a .text)) (a .start) (a .colon) (a .items) (c .acceptance-item .result) (item-named _ _ _ _ _ (c .before .before .before .before .before .before .before .before .before .before .before .names-item .ensures) (omega arith) (omega arith) (omega arith) ∙ c .before .before .before .before .before .before .before .before .before .before .if1 .left) (item-named _ _ _ _ _ (c .before .before .before .before .before .before .before .before .names-item2 .ensures) (omega arith) (omega arith) (omega arith) ∙ c .before .before .before .before .before .before .before .if2 .left) (item-named _ _ _ _ _ (c .before .before .before .before .before .names-item3 .ensures) (omega arith) (omega arith) (omega arith) ∙ c .before .before .before .before .if3 .left) (item-named _ _ _ _ _ (c .before .before .names-item4 .ensures) (omega arith) (omega arith) (omega arith) ∙ c .before .if4 .taken) (c .acceptance-item .ensures)
 
 shared-slice-read-is-small : tie.Need-shared-slice-read-is-small
 shared-slice-read-is-small c = search needs
@@ -88,7 +94,8 @@ refused-requires c κs = search needs
 returns-5 : tie.Need-returns-5
 returns-5 c =
     let a = c .before .before .before .before .before .before .before .before .before .before .before .before .before .before .before .before .before .args in
-    turn-other (now (a .text)) (a .start) (a .colon) (a .items) (c .refused .result) (sym (c .before .before .before .before .before .before .before .before .before .before .before .before .before .before .names-item .ensures) ∙ c .before .before .before .before .before .before .before .before .before .before .before .before .before .if1 .left) (sym (c .before .before .before .before .before .before .before .before .before .before .before .names-item2 .ensures) ∙ c .before .before .before .before .before .before .before .before .before .before .if2 .left) (sym (c .before .before .before .before .before .before .before .before .names-item3 .ensures) ∙ c .before .before .before .before .before .before .before .if3 .left) (sym (c .before .before .before .before .before .names-item4 .ensures) ∙ c .before .before .before .before .if4 .left) (c .before .before .before .before .before .before .before .before .before .before .before .before .before .before .before .before .before .pre .0) (c .before .before .before .before .before .before .before .before .before .before .before .before .before .before .before .before .before .pre .1) _ (c .before .before .is-small .ensures) (not-true _ (c .before .if5 .taken)) (c .refused .ensures)
+    let p = c .before .before .before .before .before .before .before .before .before .before .before .before .before .before .before .before .before .pre in
+    turn-other (now (a .text)) (a .start) (a .colon) (a .items) (c .refused .result) (item-named _ _ _ _ _ (c .before .before .before .before .before .before .before .before .before .before .before .before .before .before .names-item .ensures) (omega arith) (omega arith) (omega arith) ∙ c .before .before .before .before .before .before .before .before .before .before .before .before .before .if1 .left) (item-named _ _ _ _ _ (c .before .before .before .before .before .before .before .before .before .before .before .names-item2 .ensures) (omega arith) (omega arith) (omega arith) ∙ c .before .before .before .before .before .before .before .before .before .before .if2 .left) (item-named _ _ _ _ _ (c .before .before .before .before .before .before .before .before .names-item3 .ensures) (omega arith) (omega arith) (omega arith) ∙ c .before .before .before .before .before .before .before .if3 .left) (item-named _ _ _ _ _ (c .before .before .before .before .before .names-item4 .ensures) (omega arith) (omega arith) (omega arith) ∙ c .before .before .before .before .if4 .left) (p .0) (p .1) _ (c .before .before .is-small .ensures) (not-true _ (c .before .if5 .taken)) (c .refused .ensures)
 
 add-skip : tie.Need-add-skip
 add-skip c = search needs
@@ -99,7 +106,8 @@ skip-requires c κs = search needs
 returns-6 : tie.Need-returns-6
 returns-6 c =
     let a = c .before .before .before .before .before .before .before .before .before .before .before .before .before .before .before .before .before .args in
-    turn-skipped (now (a .text)) (a .start) (a .colon) (a .items) (record { step = Next (c .skip .result); items = a .items }) (sym (c .before .before .before .before .before .before .before .before .before .before .before .before .before .before .names-item .ensures) ∙ c .before .before .before .before .before .before .before .before .before .before .before .before .before .if1 .left) (sym (c .before .before .before .before .before .before .before .before .before .before .before .names-item2 .ensures) ∙ c .before .before .before .before .before .before .before .before .before .before .if2 .left) (sym (c .before .before .before .before .before .before .before .before .names-item3 .ensures) ∙ c .before .before .before .before .before .before .before .if3 .left) (sym (c .before .before .before .before .before .names-item4 .ensures) ∙ c .before .before .before .before .if4 .left) (c .before .before .before .before .before .before .before .before .before .before .before .before .before .before .before .before .before .pre .0) (c .before .before .before .before .before .before .before .before .before .before .before .before .before .before .before .before .before .pre .1) _ (c .before .before .is-small .ensures) (not-false _ (c .before .if5 .left)) (c .skip .result) (c .skip .ensures) refl
+    let p = c .before .before .before .before .before .before .before .before .before .before .before .before .before .before .before .before .before .pre in
+    turn-skipped (now (a .text)) (a .start) (a .colon) (a .items) (record { step = Next (c .skip .result); items = a .items }) (item-named _ _ _ _ _ (c .before .before .before .before .before .before .before .before .before .before .before .before .before .before .names-item .ensures) (omega arith) (omega arith) (omega arith) ∙ c .before .before .before .before .before .before .before .before .before .before .before .before .before .if1 .left) (item-named _ _ _ _ _ (c .before .before .before .before .before .before .before .before .before .before .before .names-item2 .ensures) (omega arith) (omega arith) (omega arith) ∙ c .before .before .before .before .before .before .before .before .before .before .if2 .left) (item-named _ _ _ _ _ (c .before .before .before .before .before .before .before .before .names-item3 .ensures) (omega arith) (omega arith) (omega arith) ∙ c .before .before .before .before .before .before .before .if3 .left) (item-named _ _ _ _ _ (c .before .before .before .before .before .names-item4 .ensures) (omega arith) (omega arith) (omega arith) ∙ c .before .before .before .before .if4 .left) (p .0) (p .1) _ (c .before .before .is-small .ensures) (not-false _ (c .before .if5 .left)) (c .skip .result) (c .skip .ensures) refl
 
 pub item-spec : {M : Type 1} → statement M
 item-spec =

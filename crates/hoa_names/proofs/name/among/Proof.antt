@@ -1,5 +1,5 @@
 -- `name::among` meets its contract.
-use mathlib.Core.Path.{_≡_, refl}
+use mathlib.Core.Path.{_≡_, refl, sym}
 use mathlib.Core.List.{List}
 use Prim.Native.Nat.{ℕ, _-_, _≤_}
 use native.Mathlib.Omega.{arith}
@@ -7,6 +7,7 @@ use borrow.Author.Needs.{needs}
 use denote.Ref.{now}
 use lib.ListN.{length, drop}
 use Rattle.hoa_text.specs.Header as Header
+use Rattle.words.specs.Inside.{spelled}
 use Rattle.hoa_names.specs.Naming.{Slots}
 use Rattle.hoa_names.proofs.Slots.{among-found, among-passed, among-end}
 use Rattle.hoa_names.proofs.name.among.Statement.{statement}
@@ -34,13 +35,13 @@ add-end : tie.Need-add-end Inv-loop μ-loop
 add-end c = omega (arith, c .before .before .before .before .before .pre .1 (c .before .before .before .loop .i))
 
 spells-requires : tie.Need-spells-requires Inv-loop μ-loop
-spells-requires c κs = (omega arith, omega (arith, c .before .before .before .before .before .before .pre .1 (c .before .before .before .before .loop .i)))
+spells-requires c κs = search needs
 
 returns : tie.Need-returns Inv-loop μ-loop
 returns c =
     let a = c .before .before .before .before .before .before .before .before .args in
     let l = c .before .before .before .before .before .before .loop in
-    λ ws e h. among-found (now (a .word)) ws (now (a .lengths)) (now (a .bytes)) (l .i) (c .before .before .before .wide .result) (omega (arith, c .before .before .before .before .before .before .before .before .pre .0)) (omega (arith, c .before .before .before .before .before .loop-test .taken)) (c .before .before .before .wide .ensures) h (l .inv .1 ws e h) _ (c .before .spells .ensures) (c .if1 .taken)
+    λ ws e h. among-found (now (a .word)) ws (now (a .lengths)) (now (a .bytes)) (l .i) (c .before .before .before .wide .result) (omega (arith, c .before .before .before .before .before .before .before .before .pre .0)) (omega (arith, c .before .before .before .before .before .loop-test .taken)) (c .before .before .before .wide .ensures) h (l .inv .1 ws e h) _ (sym (spelled _ _ _ _ _ (c .before .spells .ensures) (omega arith) (omega (arith, c .before .before .before .before .before .before .before .before .pre .1 (l .i))))) (c .if1 .taken)
 
 add-i : tie.Need-add-i Inv-loop μ-loop
 add-i c = search needs
@@ -52,7 +53,7 @@ loop-again : tie.Need-loop-again Inv-loop μ-loop
 loop-again c =
     let a = c .before .before .before .before .before .before .before .before .args in
     let l = c .before .before .before .before .before .before .loop in
-    (omega arith, λ ws e h. among-passed (now (a .word)) ws (now (a .lengths)) (now (a .bytes)) (l .i) (c .before .before .before .wide .result) (omega (arith, c .before .before .before .before .before .before .before .before .pre .0)) (omega (arith, c .before .before .before .before .before .loop-test .taken)) (c .before .before .before .wide .ensures) h (l .inv .1 ws e h) _ (c .before .spells .ensures) (c .if1 .left))
+    (omega arith, λ ws e h. among-passed (now (a .word)) ws (now (a .lengths)) (now (a .bytes)) (l .i) (c .before .before .before .wide .result) (omega (arith, c .before .before .before .before .before .before .before .before .pre .0)) (omega (arith, c .before .before .before .before .before .loop-test .taken)) (c .before .before .before .wide .ensures) h (l .inv .1 ws e h) _ (sym (spelled _ _ _ _ _ (c .before .spells .ensures) (omega arith) (omega (arith, c .before .before .before .before .before .before .before .before .pre .1 (l .i))))) (c .if1 .left))
 
 returns-2 : tie.Need-returns-2 Inv-loop μ-loop
 returns-2 c = λ ws e h. among-end (now (c .before .before .before .args .word)) ws (c .before .loop .i) (omega (arith, c .loop-test .left)) (c .before .loop .inv .1 ws e h)

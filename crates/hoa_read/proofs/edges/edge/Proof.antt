@@ -3,7 +3,7 @@ use mathlib.Core.Path.{subst}
 use borrow.Author.Needs.{needs}
 use denote.Ref.{now}
 use Rattle.hoa_text.specs.Labels.{label}
-use Rattle.hoa_text.specs.Offsets.{left}
+use Rattle.hoa_text.specs.Tokens.{left}
 use Rattle.labels.specs.Answers.{Answers}
 use Rattle.hoa_read.proofs.EdgeLaws.{label-refused, label-read}
 use Rattle.hoa_read.proofs.edges.edge.Statement.{statement}

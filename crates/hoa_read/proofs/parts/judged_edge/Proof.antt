@@ -3,7 +3,7 @@ use mathlib.Core.Path.{subst}
 use borrow.Author.Needs.{needs}
 use denote.Ref.{now}
 use Rattle.hoa_text.specs.Body.{marked}
-use Rattle.hoa_text.specs.Offsets.{left}
+use Rattle.hoa_text.specs.Tokens.{left}
 use Rattle.hoa_read.specs.Marks.{MarksAnswer}
 use Rattle.hoa_read.proofs.PartLaws.{judged-refused, judged-second, judged-edge}
 use Rattle.hoa_read.proofs.parts.judged_edge.Statement.{statement}

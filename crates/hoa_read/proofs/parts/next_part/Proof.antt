@@ -1,7 +1,8 @@
 -- `parts::next_part` meets its contract.
-use mathlib.Core.Path.{sym, _∙_, subst}
+use mathlib.Core.Path.{_∙_, subst}
 use native.Mathlib.Omega.{arith}
 use borrow.Author.Needs.{needs}
+use Rattle.words.specs.Inside.{item-named}
 use Rattle.scan.specs.Answers.{Reads}
 use Rattle.hoa_read.proofs.PartLaws.{state-part, other-item, other-sign, no-state-yet, edge-part, end-part, no-part}
 use Rattle.hoa_read.proofs.parts.next_part.Statement.{statement}
@@ -17,7 +18,7 @@ slice-aggregate-names-item : tie.Need-slice-aggregate-names-item
 slice-aggregate-names-item c = search needs
 
 names-item-requires : tie.Need-names-item-requires
-names-item-requires c κs = let k = subst (Reads _ _) (c .before .before .start .given .1) (c .before .before .before .before .next-token .ensures) in (omega (arith, k .lies .longer), omega (arith, k .lies .to), omega arith)
+names-item-requires c κs = search needs
 
 add-state-part : tie.Need-add-state-part
 add-state-part c = let k = subst (Reads _ _) (c .before .before .before .before .start .given .1) (c .before .before .before .before .before .before .next-token .ensures) in omega (arith, k .lies .to)
@@ -26,7 +27,9 @@ state-part-requires : tie.Need-state-part-requires
 state-part-requires c κs = search needs
 
 returns : tie.Need-returns
-returns c = state-part _ _ _ _ _ _ (subst (Reads _ _) (c .before .before .before .before .before .start .given .1) (c .before .before .before .before .before .before .before .next-token .ensures)) (sym (c .before .before .names-item .ensures) ∙ c .before .if1 .taken) (c .state-part .result) (c .state-part .ensures)
+returns c =
+    let k = subst (Reads _ _) (c .before .before .before .before .before .start .given .1) (c .before .before .before .before .before .before .before .next-token .ensures) in
+    state-part _ _ _ _ _ _ k (item-named _ _ _ _ _ (c .before .before .names-item .ensures) (omega (arith, k .lies .longer)) (omega (arith, k .lies .to)) (omega arith) ∙ c .before .if1 .taken) (c .state-part .result) (c .state-part .ensures)
 
 enum-known-start-2 : tie.Need-enum-known-start-2
 enum-known-start-2 c = search needs
@@ -53,7 +56,9 @@ offset-requires : tie.Need-offset-requires
 offset-requires c κs = search needs
 
 returns-4 : tie.Need-returns-4
-returns-4 c = other-item _ _ _ _ _ _ (subst (Reads _ _) (c .before .before .before .before .start .given .1) (c .before .before .before .before .before .before .next-token .ensures)) (sym (c .before .names-item .ensures) ∙ c .if1 .left)
+returns-4 c =
+    let k = subst (Reads _ _) (c .before .before .before .before .start .given .1) (c .before .before .before .before .before .before .next-token .ensures) in
+    other-item _ _ _ _ _ _ k (item-named _ _ _ _ _ (c .before .names-item .ensures) (omega (arith, k .lies .longer)) (omega (arith, k .lies .to)) (omega arith) ∙ c .if1 .left)
 
 returns-5 : tie.Need-returns-5
 returns-5 c = edge-part _ _ _ _ _ _ (subst (Reads _ _) (c .before .before .before .before .before .start2 .given .1) (c .before .before .before .before .before .before .before .next-token .ensures)) (c .before .before .before .if2 .left) (c .before .if3 .left) (c .edge-part .result) (c .edge-part .ensures)

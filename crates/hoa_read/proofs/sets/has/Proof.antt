@@ -1,6 +1,6 @@
 -- `sets::has` meets its contract.
 use borrow.Author.Needs.{needs}
-use Rattle.meaning.specs.BitSet.{has-test}
+use Rattle.meaning.specs.BitSetLaws.{has-test}
 use Rattle.hoa_read.proofs.sets.has.Statement.{statement}
 use Rattle.hoa_read.proofs.sets.has.Tie as tie
 

@@ -1,7 +1,9 @@
 -- `edge_line` meets its contract.
+use mathlib.Core.Path.{ap}
 use native.Mathlib.Omega.{arith}
 use borrow.Author.Needs.{needs}
-use Rattle.decimal.specs.Writing.{wrote-then}
+use lib.ListN.{length}
+use Rattle.decimal.specs.Writing.{roomy-then}
 use Rattle.hoa_write.proofs.Cases.{edge-is, edge-length}
 use Rattle.hoa_write.proofs.Values.{cell-lt, mark-set-lt}
 use Rattle.hoa_write.proofs.Writing.{named}
@@ -51,9 +53,7 @@ marks-requires c κs =
     (s .pre .0 .sets-le, omega (arith, s .pre .3, edge-length (s .args .a) (s .args .q) (s .args .l)))
 
 byte-requires : tie.Need-byte-requires
-byte-requires c κs =
-    let s = c .before .before .before .before .before .before .before .before .before .before .before .before .before .before .before .before in
-    omega (arith, s .pre .3, edge-length (s .args .a) (s .args .q) (s .args .l))
+byte-requires c κs = search needs
 
 same-length : tie.Need-same-length
 same-length c = search needs
@@ -61,8 +61,8 @@ same-length c = search needs
 returns : tie.Need-returns
 returns c =
     let s = c .before .before .before .before .before .before .before .before .before .before .before .before .before .before .before .before .before .before .before in
-    named (edge-is (s .args .a) (s .args .q) (s .args .l))
-    (wrote-then (c .before .before .before .before .before .before .before .before .before .before .before .before .before .before .bracketed .ensures) (wrote-then (c .before .before .before .before .before .before .before .before .before .before .number .ensures) (wrote-then (c .before .before .before .before .before .before .marks .ensures) (c .before .before .byte .ensures))))
+    let e = edge-is (s .args .a) (s .args .q) (s .args .l) in
+    named e (roomy-then (λ h. c .before .before .before .before .before .before .before .before .before .before .before .before .before .before .bracketed .ensures) (roomy-then (λ h. c .before .before .before .before .before .before .before .before .before .before .number .ensures) (roomy-then (λ h. c .before .before .before .before .before .before .marks .ensures) (c .before .before .byte .ensures .roomy))) (omega (arith, s .pre .3, ap length e)))
 
 pub edge-line-spec : {M : Type 1} → statement M
 edge-line-spec =

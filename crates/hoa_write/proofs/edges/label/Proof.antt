@@ -9,18 +9,20 @@ use Rattle.hoa_write.proofs.Writing.{named}
 use Rattle.hoa_write.proofs.edges.label.Statement.{statement}
 use Rattle.hoa_write.proofs.edges.label.Tie as tie
 
-byte-requires : tie.Need-byte-requires
-byte-requires c κs =
-    let s = c .before .before .before in
-    omega (arith, s .pre .1, ap (λ k. length (labelOf k (s .args .l))) (c .before .if1 .taken))
+slice-aggregate-word : tie.Need-slice-aggregate-word
+slice-aggregate-word c = search needs
+
+word-requires : tie.Need-word-requires
+word-requires c κs = search needs
 
 same-length : tie.Need-same-length
 same-length c = search needs
 
 returns : tie.Need-returns
 returns c =
-    let s = c .before .before .before .before .before .before in
-    named (sym (ap (λ k. labelOf k (s .args .l)) (c .before .before .before .before .if1 .taken))) (c .before .before .byte .ensures)
+    let s = c .before .before .before .before .before .before .before in
+    let e = c .before .before .before .before .before .if1 .taken in
+    named (sym (ap (λ k. labelOf k (s .args .l)) e)) (c .before .before .word .ensures .roomy (omega (arith, s .pre .1, ap (λ k. length (labelOf k (s .args .l))) e)))
 
 literals-requires : tie.Need-literals-requires
 literals-requires c κs =
@@ -38,4 +40,4 @@ returns-2 c =
 pub label-spec : {M : Type 1} → statement M
 label-spec =
     tie.close
-    (tie.spec byte-requires same-length returns literals-requires same-length-2 returns-2)
+    (tie.spec slice-aggregate-word word-requires same-length returns literals-requires same-length-2 returns-2)

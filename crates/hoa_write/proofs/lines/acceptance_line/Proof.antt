@@ -1,8 +1,9 @@
 -- `acceptance_line` meets its contract.
 use native.Mathlib.Omega.{arith}
 use borrow.Author.Needs.{needs}
-use lib.ListN.{length-append}
-use Rattle.decimal.specs.Writing.{wrote-then}
+use lib.ListN.{length, length-append}
+use Rattle.decimal.specs.Writing.{roomy-then, room-left}
+use Rattle.hoa_text.specs.Written.{conditionOf}
 use Rattle.hoa_write.proofs.lines.acceptance_line.Statement.{statement}
 use Rattle.hoa_write.proofs.lines.acceptance_line.Tie as tie
 
@@ -15,21 +16,22 @@ item-requires c κs =
     (omega (arith, s .pre .0 .sets-le), omega (arith, simp length-append at (s .pre .1)))
 
 byte-requires : tie.Need-byte-requires
-byte-requires c κs = omega (arith, simp length-append at (c .before .before .before .before .before .before .before .pre .1))
+byte-requires c κs = search needs
 
 condition-requires : tie.Need-condition-requires
 condition-requires c κs =
     let s = c .before .before .before .before .before .before .before .before .before .before .before in
-    (s .pre .0 .sets-le, omega (arith, simp length-append at (s .pre .1)))
+    let h = simp length-append at (s .pre .1) in
+    (s .pre .0 .sets-le, room-left (roomy-then (λ h. c .before .before .before .before .before .before .before .item .ensures) (c .before .before .before .byte .ensures .roomy) (simp length-append (omega arith))) (length (conditionOf (s .args .a .sets))) (simp length-append (omega arith)))
 
 byte-requires-2 : tie.Need-byte-requires-2
-byte-requires-2 c κs = omega (arith, simp length-append at (c .before .before .before .before .before .before .before .before .before .before .before .before .before .before .before .pre .1))
+byte-requires-2 c κs = search needs
 
 same-length : tie.Need-same-length
 same-length c = search needs
 
 returns : tie.Need-returns
-returns c = wrote-then (wrote-then (c .before .before .before .before .before .before .before .before .before .before .before .before .before .before .item .ensures) (wrote-then (c .before .before .before .before .before .before .before .before .before .before .byte .ensures) (c .before .before .before .before .before .before .condition .ensures))) (c .before .before .byte2 .ensures)
+returns c = roomy-then (roomy-then (λ h. c .before .before .before .before .before .before .before .before .before .before .before .before .before .before .item .ensures) (roomy-then (c .before .before .before .before .before .before .before .before .before .before .byte .ensures .roomy) (λ h. c .before .before .before .before .before .before .condition .ensures))) (c .before .before .byte2 .ensures .roomy) (omega (arith, c .before .before .before .before .before .before .before .before .before .before .before .before .before .before .before .before .before .before .pre .1))
 
 pub acceptance-line-spec : {M : Type 1} → statement M
 acceptance-line-spec =

@@ -9,16 +9,20 @@ use Rattle.hoa_write.proofs.Writing.{named}
 use Rattle.hoa_write.proofs.lines.condition.Statement.{statement}
 use Rattle.hoa_write.proofs.lines.condition.Tie as tie
 
-byte-requires : tie.Need-byte-requires
-byte-requires c κs =
-    let s = c .before .before .before in
-    omega (arith, s .pre .1, ap (λ m. length (conditionOf m)) (c .before .if1 .taken))
+slice-aggregate-word : tie.Need-slice-aggregate-word
+slice-aggregate-word c = search needs
+
+word-requires : tie.Need-word-requires
+word-requires c κs = search needs
 
 same-length : tie.Need-same-length
 same-length c = search needs
 
 returns : tie.Need-returns
-returns c = named (sym (ap conditionOf (c .before .before .before .before .if1 .taken))) (c .before .before .byte .ensures)
+returns c =
+    let s = c .before .before .before .before .before .before .before in
+    let e = c .before .before .before .before .before .if1 .taken in
+    named (sym (ap conditionOf e)) (c .before .before .word .ensures .roomy (omega (arith, s .pre .1, ap (λ m. length (conditionOf m)) e)))
 
 infs-requires : tie.Need-infs-requires
 infs-requires c κs =
@@ -33,4 +37,4 @@ returns-2 c = named (condition-some (c .before .before .before .before .before .
 
 pub condition-spec : {M : Type 1} → statement M
 condition-spec =
-    tie.close (tie.spec byte-requires same-length returns infs-requires same-length-2 returns-2)
+    tie.close (tie.spec slice-aggregate-word word-requires same-length returns infs-requires same-length-2 returns-2)

@@ -1,6 +1,7 @@
 -- `hoa_line` meets its contract.
+use native.Mathlib.Omega.{arith}
 use borrow.Author.Needs.{needs}
-use Rattle.decimal.specs.Writing.{wrote-then}
+use Rattle.decimal.specs.Writing.{roomy-then}
 use Rattle.hoa_write.proofs.lines.hoa_line.Statement.{statement}
 use Rattle.hoa_write.proofs.lines.hoa_line.Tie as tie
 
@@ -26,7 +27,7 @@ same-length : tie.Need-same-length
 same-length c = search needs
 
 returns : tie.Need-returns
-returns c = wrote-then (c .before .before .before .before .before .before .before .before .before .before .before .before .before .before .before .word .ensures) (wrote-then (c .before .before .before .before .before .before .before .before .before .before .before .byte .ensures) (wrote-then (c .before .before .before .before .before .before .word2 .ensures) (c .before .before .byte2 .ensures)))
+returns c = roomy-then (c .before .before .before .before .before .before .before .before .before .before .before .before .before .before .before .word .ensures .roomy) (roomy-then (c .before .before .before .before .before .before .before .before .before .before .before .byte .ensures .roomy) (roomy-then (c .before .before .before .before .before .before .word2 .ensures .roomy) (c .before .before .byte2 .ensures .roomy))) (omega (arith, c .before .before .before .before .before .before .before .before .before .before .before .before .before .before .before .before .before .before .before .pre))
 
 pub hoa-line-spec : {M : Type 1} → statement M
 hoa-line-spec =

@@ -2,7 +2,7 @@
 use native.Mathlib.Omega.{arith}
 use borrow.Author.Needs.{needs}
 use lib.ListN.{length-append}
-use Rattle.decimal.specs.Writing.{wrote-then}
+use Rattle.decimal.specs.Writing.{wrote-then, roomy-then}
 use Rattle.hoa_write.proofs.lines.names_line.Statement.{statement}
 use Rattle.hoa_write.proofs.lines.names_line.Tie as tie
 
@@ -20,13 +20,13 @@ quoted-names-requires c κs =
     (s .pre .0, omega (arith, simp length-append at (s .pre .1)))
 
 byte-requires : tie.Need-byte-requires
-byte-requires c κs = omega (arith, simp length-append at (c .before .before .before .before .before .before .before .before .before .before .before .pre .1))
+byte-requires c κs = search needs
 
 same-length : tie.Need-same-length
 same-length c = search needs
 
 returns : tie.Need-returns
-returns c = wrote-then (wrote-then (c .before .before .before .before .before .before .before .before .before .before .item .ensures) (c .before .before .before .before .before .before .quoted-names .ensures)) (c .before .before .byte .ensures)
+returns c = roomy-then (λ h. wrote-then (c .before .before .before .before .before .before .before .before .before .before .item .ensures) (c .before .before .before .before .before .before .quoted-names .ensures)) (c .before .before .byte .ensures .roomy) (omega (arith, c .before .before .before .before .before .before .before .before .before .before .before .before .before .before .pre .1))
 
 pub names-line-spec : {M : Type 1} → statement M
 names-line-spec =

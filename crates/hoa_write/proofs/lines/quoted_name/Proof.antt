@@ -1,8 +1,10 @@
 -- `quoted_name` meets its contract.
+use mathlib.Core.Path.{ap}
 use native.Mathlib.Omega.{arith}
 use borrow.Author.Needs.{needs}
-use Rattle.decimal.specs.Writing.{wrote-then}
-use Rattle.hoa_write.proofs.Values.{quoted-is, quoted-length}
+use lib.ListN.{length}
+use Rattle.decimal.specs.Writing.{roomy-then}
+use Rattle.hoa_write.proofs.Values.{quoted-is}
 use Rattle.hoa_write.proofs.Writing.{named}
 use Rattle.hoa_write.proofs.lines.quoted_name.Statement.{statement}
 use Rattle.hoa_write.proofs.lines.quoted_name.Tie as tie
@@ -41,14 +43,10 @@ part-word-end c =
     omega (arith, v .name-le (s .args .i) (s .pre .1), v .propositions-le, v .names-size)
 
 word-requires : tie.Need-word-requires
-word-requires c κs =
-    let s = c .before .before .before .before .before .before .before .before .before .before .before .before .before .before in
-    omega (arith, s .pre .2, quoted-length (s .args .a) (s .args .i))
+word-requires c κs = search needs
 
 byte-requires-3 : tie.Need-byte-requires-3
-byte-requires-3 c κs =
-    let s = c .before .before .before .before .before .before .before .before .before .before .before .before .before .before .before .before .before .before in
-    omega (arith, s .pre .2, quoted-length (s .args .a) (s .args .i))
+byte-requires-3 c κs = search needs
 
 same-length : tie.Need-same-length
 same-length c = search needs
@@ -56,8 +54,8 @@ same-length c = search needs
 returns : tie.Need-returns
 returns c =
     let s = c .before .before .before .before .before .before .before .before .before .before .before .before .before .before .before .before .before .before .before .before .before in
-    named (quoted-is (s .args .a) (s .args .i))
-    (wrote-then (c .before .before .before .before .before .before .before .before .before .before .before .before .before .before .before .before .byte .ensures) (wrote-then (c .before .before .before .before .before .before .before .before .before .before .before .before .byte2 .ensures) (wrote-then (c .before .before .before .before .before .before .word .ensures) (c .before .before .byte3 .ensures))))
+    let e = quoted-is (s .args .a) (s .args .i) in
+    named e (roomy-then (c .before .before .before .before .before .before .before .before .before .before .before .before .before .before .before .before .byte .ensures .roomy) (roomy-then (c .before .before .before .before .before .before .before .before .before .before .before .before .byte2 .ensures .roomy) (roomy-then (c .before .before .before .before .before .before .word .ensures .roomy) (c .before .before .byte3 .ensures .roomy))) (omega (arith, s .pre .2, ap length e)))
 
 pub quoted-name-spec : {M : Type 1} → statement M
 quoted-name-spec =

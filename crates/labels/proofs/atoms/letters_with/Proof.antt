@@ -3,21 +3,21 @@ use mathlib.Core.Path.{sym, subst}
 use native.Mathlib.Omega.{arith}
 use Rattle.hoa_text.specs.Labels.{proposition}
 use Rattle.labels.specs.Answers.{Satisfy}
-use Rattle.labels.proofs.LetterSets.{letters-0, letters-1, letters-2, letters-3, letters-past}
+use Rattle.labels.proofs.LetterSets.{letters-with, letters-past}
 use Rattle.labels.proofs.atoms.letters_with.Statement.{statement}
 use Rattle.labels.proofs.atoms.letters_with.Tie as tie
 
 returns : tie.Need-returns
-returns c = subst (λ i. Satisfy 43690 (proposition i)) (sym (c .match .keys1)) letters-0
+returns c = subst (λ i. Satisfy 43690 (proposition i)) (sym (c .match .keys1)) (letters-with 0)
 
 returns-2 : tie.Need-returns-2
-returns-2 c = subst (λ i. Satisfy 52428 (proposition i)) (sym (c .match .keys2)) letters-1
+returns-2 c = subst (λ i. Satisfy 52428 (proposition i)) (sym (c .match .keys2)) (letters-with 1)
 
 returns-3 : tie.Need-returns-3
-returns-3 c = subst (λ i. Satisfy 61680 (proposition i)) (sym (c .match .keys3)) letters-2
+returns-3 c = subst (λ i. Satisfy 61680 (proposition i)) (sym (c .match .keys3)) (letters-with 2)
 
 returns-4 : tie.Need-returns-4
-returns-4 c = subst (λ i. Satisfy 65280 (proposition i)) (sym (c .match .keys4)) letters-3
+returns-4 c = subst (λ i. Satisfy 65280 (proposition i)) (sym (c .match .keys4)) (letters-with 3)
 
 returns-5 : tie.Need-returns-5
 returns-5 c = letters-past _ (omega (arith, c .match .rest .1, c .match .rest .0 .1, c .match .rest .0 .0 .1, c .match .rest .0 .0 .0 .1))

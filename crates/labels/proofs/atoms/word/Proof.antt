@@ -1,5 +1,7 @@
 -- `atoms::word` meets its contract.
-use mathlib.Core.Path.{sym, _∙_}
+use mathlib.Core.Path.{_∙_}
+use native.Mathlib.Omega.{arith}
+use Rattle.words.specs.Inside.{spelled}
 use Rattle.labels.proofs.Laws.{is-true, is-false, is-neither}
 use borrow.Author.Needs.{needs}
 use Rattle.labels.proofs.atoms.word.Statement.{statement}
@@ -14,7 +16,7 @@ spells-requires c κs = search needs
 returns : tie.Need-returns
 returns c =
     let p = c .before .before .before .before .pre in
-    is-true _ _ _ (p .0) (p .1) (sym (c .before .spells .ensures) ∙ c .if1 .taken)
+    is-true _ _ _ (p .0) (p .1) (spelled _ _ _ _ _ (c .before .spells .ensures) (omega arith) (p .1) ∙ c .if1 .taken)
 
 slice-aggregate-spells-2 : tie.Need-slice-aggregate-spells-2
 slice-aggregate-spells-2 c = search needs
@@ -25,12 +27,12 @@ spells-requires-2 c κs = search needs
 returns-2 : tie.Need-returns-2
 returns-2 c =
     let p = c .before .before .before .before .before .before .before .pre in
-    is-false _ _ _ (p .0) (p .1) (sym (c .before .before .before .before .spells .ensures) ∙ c .before .before .before .if1 .left) (sym (c .before .spells2 .ensures) ∙ c .if2 .taken)
+    is-false _ _ _ (p .0) (p .1) (spelled _ _ _ _ _ (c .before .before .before .before .spells .ensures) (omega arith) (p .1) ∙ c .before .before .before .if1 .left) (spelled _ _ _ _ _ (c .before .spells2 .ensures) (omega arith) (p .1) ∙ c .if2 .taken)
 
 returns-3 : tie.Need-returns-3
 returns-3 c =
     let p = c .before .before .before .before .before .before .before .pre in
-    is-neither _ _ _ (p .0) (p .1) (sym (c .before .before .before .before .spells .ensures) ∙ c .before .before .before .if1 .left) (sym (c .before .spells2 .ensures) ∙ c .if2 .left)
+    is-neither _ _ _ (p .0) (p .1) (spelled _ _ _ _ _ (c .before .before .before .before .spells .ensures) (omega arith) (p .1) ∙ c .before .before .before .if1 .left) (spelled _ _ _ _ _ (c .before .spells2 .ensures) (omega arith) (p .1) ∙ c .if2 .left)
 
 pub word-spec : {M : Type 1} → statement M
 word-spec =

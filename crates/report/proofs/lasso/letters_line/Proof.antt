@@ -11,7 +11,9 @@ word-requires : tie.Need-word-requires
 word-requires c κs = search needs
 
 numbers-requires : tie.Need-numbers-requires
-numbers-requires c κs = search needs
+numbers-requires c κs =
+    let w = c .before .before .before .word .ensures .roomy (omega arith) in
+    omega arith
 
 byte-requires : tie.Need-byte-requires
 byte-requires c κs = search needs
@@ -20,7 +22,12 @@ same-length : tie.Need-same-length
 same-length c = search needs
 
 returns : tie.Need-returns
-returns c = (wrote-then (c .before .before .before .before .before .before .before .before .before .before .word .ensures) (wrote-row (take (c .before .before .before .before .before .before .before .before .before .before .before .before .before .before .before .args .count) (c .before .before .before .before .before .before .before .before .before .before .before .before .before .before .before .args .letters .now)) (c .before .before .before .before .before .before .numbers .ensures .0) (c .before .before .byte .ensures)), omega arith)
+returns c =
+    let s = c .before .before .before .before .before .before .before .before .before .before .before .before .before .before .before .args in
+    let w = c .before .before .before .before .before .before .before .before .before .before .word .ensures .roomy (omega arith) in
+    let n = c .before .before .before .before .before .before .numbers .ensures in
+    let b = c .before .before .byte .ensures .roomy (omega (arith, n .1)) in
+    (wrote-then w (wrote-row (take (s .count) (s .letters .now)) (n .0) b), omega (arith, n .1))
 
 pub letters-line-spec : {M : Type 1} → statement M
 letters-line-spec =

@@ -1,10 +1,9 @@
 -- `Search::found` meets its contract.
-use mathlib.Core.Path.{refl}
 use native.Mathlib.Omega.{arith}
 use Rattle.automaton.specs.Value.{Valid}
 use Rattle.search.specs.Replies.{InRange, Admitted, AskedFor, short-prefix, short-loop, outside, finished, dimensions}
-use Rattle.meaning.specs.Tests.{fails-not, passes-so}
-use Rattle.search.proofs.Laws.{compared}
+use Rattle.meaning.specs.TestLaws.{fails-not, passes-so}
+use Rattle.search.proofs.Laws.{untouched, compared}
 use borrow.Author.Needs.{needs}
 use Rattle.compare.specs.Compared.{Room}
 use Rattle.search.proofs.Search.found.Statement.{statement}
@@ -30,13 +29,13 @@ refused-requires : tie.Need-refused-requires
 refused-requires c κs = search needs
 
 returns : tie.Need-returns
-returns c = short-prefix (c .before .if1 .taken) (c .refused .ensures, refl, refl)
+returns c = short-prefix (c .before .if1 .taken) (untouched (c .refused .ensures))
 
 refused-requires-2 : tie.Need-refused-requires-2
 refused-requires-2 c κs = search needs
 
 returns-2 : tie.Need-returns-2
-returns-2 c = short-loop (c .before .before .if1 .left) (c .before .if2 .taken) (c .refused2 .ensures, refl, refl)
+returns-2 c = short-loop (c .before .before .if1 .left) (c .before .if2 .taken) (untouched (c .refused2 .ensures))
 
 in-range-requires : tie.Need-in-range-requires
 in-range-requires c κs = search needs
@@ -46,7 +45,7 @@ refused-requires-3 c κs = search needs
 
 returns-3 : tie.Need-returns-3
 returns-3 c =
-    outside (room (c .before .before .before)) (λ h. fails-not (c .before .before .in-range .ensures) (c .before .if3 .taken) (h .0)) (c .refused3 .ensures, refl, refl)
+    outside (room (c .before .before .before)) (λ h. fails-not (c .before .before .in-range .ensures) (c .before .if3 .taken) (h .0)) (untouched (c .refused3 .ensures))
 
 valid-requires : tie.Need-valid-requires
 valid-requires c κs = search needs
@@ -56,14 +55,14 @@ refused-requires-4 c κs = search needs
 
 returns-4 : tie.Need-returns-4
 returns-4 c =
-    outside (room (c .before .before .before .before .before)) (λ h. fails-not (c .before .before .valid .ensures) (c .before .if4 .taken) (h .1)) (c .refused4 .ensures, refl, refl)
+    outside (room (c .before .before .before .before .before)) (λ h. fails-not (c .before .before .valid .ensures) (c .before .if4 .taken) (h .1)) (untouched (c .refused4 .ensures))
 
 replied-requires : tie.Need-replied-requires
 replied-requires c κs = search needs
 
 returns-5 : tie.Need-returns-5
 returns-5 c =
-    finished (room (c .before .before .before .before .before .before)) (in-range (c .before .before .before .before)) (valid (c .before .before)) (c .before .if5 .taken) (c .replied .ensures, refl, refl)
+    finished (room (c .before .before .before .before .before .before)) (in-range (c .before .before .before .before)) (valid (c .before .before)) (c .before .if5 .taken) (untouched (c .replied .ensures))
 
 asked-for-requires : tie.Need-asked-for-requires
 asked-for-requires c κs = search needs
@@ -73,7 +72,7 @@ refused-requires-5 c κs = search needs
 
 returns-6 : tie.Need-returns-6
 returns-6 c =
-    dimensions (room (c .before .before .before .before .before .before .before .before)) (admitted (c .before .before .before)) (fails-not (c .before .before .asked-for .ensures) (c .before .if6 .taken)) (c .refused5 .ensures, refl, refl)
+    dimensions (room (c .before .before .before .before .before .before .before .before)) (admitted (c .before .before .before)) (fails-not (c .before .before .asked-for .ensures) (c .before .if6 .taken)) (untouched (c .refused5 .ensures))
 
 compare-requires : tie.Need-compare-requires
 compare-requires c κs = search needs

@@ -1,6 +1,6 @@
 -- `moves::none` meets its contract.
 use borrow.Author.Tests.{ltb-true}
-use Rattle.meaning.specs.Tests.{and-right}
+use Rattle.meaning.specs.TestLaws.{and-right}
 use borrow.Author.Needs.{needs}
 use Rattle.search.proofs.moves.none.Statement.{statement}
 use Rattle.search.proofs.moves.none.Tie as tie

@@ -1,5 +1,5 @@
 -- `mark_number` meets its contract: each digit keeps the number below the product of the bounds.
-use Rattle.variables.specs.Limits.{steps-le}
+use Rattle.variables.specs.Limits.{steps-le, marks-le}
 use Rattle.variables.proofs.Laws.{row-lt, mark-row-lt, mark-lt, mark-is}
 use native.Mathlib.Omega.{arith}
 use Rattle.variables.proofs.numbers.mark_number.Statement.{statement}
@@ -27,7 +27,7 @@ add-result-4 : tie.Need-add-result-4
 add-result-4 c = omega (arith, mark-lt (c .before .before .before .before .before .pre .0) (c .before .before .before .before .before .pre .1))
 
 add-result-5 : tie.Need-add-result-5
-add-result-5 c = omega (arith, mark-lt (c .before .before .before .before .before .before .pre .0) (c .before .before .before .before .before .before .pre .1), steps-le (c .before .before .before .before .before .before .pre .0))
+add-result-5 c = omega (arith, mark-lt (c .before .before .before .before .before .before .pre .0) (c .before .before .before .before .before .before .pre .1), steps-le (c .before .before .before .before .before .before .pre .0), marks-le (c .before .before .before .before .before .before .pre .0))
 
 returns : tie.Need-returns
 returns c = record {

@@ -1,5 +1,5 @@
 -- `path_number` meets its contract: each digit keeps the number below the product of the bounds.
-use Rattle.variables.specs.Limits.{marks-le}
+use Rattle.variables.specs.Limits.{marks-le, steps-le}
 use Rattle.variables.proofs.Laws.{path-lt, path-is}
 use native.Mathlib.Omega.{arith}
 use Rattle.variables.proofs.numbers.path_number.Statement.{statement}
@@ -39,7 +39,7 @@ add-result : tie.Need-add-result
 add-result c = omega (arith, path-lt (c .before .before .before .before .before .before .before .before .before .pre .0) (c .before .before .before .before .before .before .before .before .before .pre .1) .five)
 
 add-result-2 : tie.Need-add-result-2
-add-result-2 c = omega (arith, path-lt (c .before .before .before .before .before .before .before .before .before .before .pre .0) (c .before .before .before .before .before .before .before .before .before .before .pre .1) .five, marks-le (c .before .before .before .before .before .before .before .before .before .before .pre .0))
+add-result-2 c = omega (arith, path-lt (c .before .before .before .before .before .before .before .before .before .before .pre .0) (c .before .before .before .before .before .before .before .before .before .before .pre .1) .five, marks-le (c .before .before .before .before .before .before .before .before .before .before .pre .0), steps-le (c .before .before .before .before .before .before .before .before .before .before .pre .0))
 
 returns : tie.Need-returns
 returns c = record {

@@ -1,0 +1,30 @@
+-- The tables of a measured reference fit its sizes, and the clauses made of them are those of its file.
+use mathlib.Core.Path.{_≡_, sym, ap, subst}
+use Prim.Native.Nat.{ℕ, _<_}
+use Rattle.automaton.specs.declared.Automaton.{Automaton}
+use Rattle.automaton.specs.Value.{Valid}
+use Rattle.automaton.specs.View.{view}
+use Rattle.encoding.specs.Variables.{base, base-number}
+use Rattle.variables.specs.declared.sizes.Sizes.{Sizes}
+use Rattle.variables.specs.Sizes.{Dimensioned, sizesOf}
+use Rattle.variables.specs.Measured.{Measured}
+use Rattle.variables.specs.Numbers.{counted, numberOf}
+use Rattle.variables.specs.Limits.{sizes-fit}
+use Rattle.clause_list.specs.Tables.{tabled, taskOf, Tables}
+
+tables-fit : {a : Automaton} {n m : ℕ} → Valid a → Dimensioned n m → Tables (sizesOf a n m) (a .destinations) (a .marks)
+tables-fit v d = record { fits = sizes-fit v d; step-lt = v .destination-lt; marks-lt = v .marks-lt }
+
+module _ {a : Automaton} {z : Sizes} (m : Measured a z) where
+  pub measured-tables : Tables z (a .destinations) (a .marks)
+  measured-tables = subst (λ z. Tables z (a .destinations) (a .marks)) (sym (m .sized)) (tables-fit (m .valid) (m .dimensioned))
+
+  pub measured-start : a .start < z .reference .states
+  measured-start = subst (λ z. a .start < z .reference .states) (sym (m .sized)) (m .valid .start-lt)
+
+  -- the clauses are those of the file for the reference
+  pub measured-task : taskOf z (a .start) (a .destinations) (a .marks) ≡ base (view a) (z .candidate .states) (z .candidate .sets)
+  measured-task = ap (λ y. base (tabled y (a .start) (a .destinations) (a .marks)) (z .candidate .states) (z .candidate .sets)) (m .sized)
+
+  pub measured-number : numberOf z ≡ base-number (view a) (z .candidate .states) (z .candidate .sets)
+  measured-number = ap (λ y. base-number (counted y) (z .candidate .states) (z .candidate .sets)) (m .sized)
