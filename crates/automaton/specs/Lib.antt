@@ -1,9 +1,8 @@
 pub mod Value
 pub mod Rows
-pub mod Powers
+pub mod Letters
 pub mod View
 pub mod ViewLaws
-pub mod Refused
 pub mod Bytes
 pub mod Names
 pub mod Equality

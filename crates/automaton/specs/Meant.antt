@@ -11,7 +11,7 @@ use lib.ListN.{length}
 use Rattle.meaning.specs.TestLaws.{and-true, and-left, and-right, truth}
 use Rattle.automaton.specs.declared.Automaton.{Automaton}
 use Rattle.automaton.specs.Value.{Valid, letters, nameLength, nameByte}
-use Rattle.automaton.specs.Powers.{power-is, power-le}
+use Rattle.bits.specs.Powers.{power-is, power-le}
 use Rattle.automaton.specs.Tests.{countsFit, filled, tablesFit, lengthsFit, bytesFit, alike, apart, named, fits}
 use Rattle.automaton.specs.TableTest.{filled-below, filled-zero, filled-of}
 use Rattle.automaton.specs.NameTest.{length-some, length-le, length-zero, lengths-of, byte-means, byte-zero, bytes-of, apart-at, apart-of, equal-alike, alike-equal}

@@ -1,5 +1,5 @@
 // The automaton as a value, its limits, and the test that a value lies in "The automaton".
-use powers::power_of_two;
+use bits::powers::power_of_two;
 ghost use mathlib.Core.Path.{_≡_};
 ghost use mathlib.Core.Logic.{_↔_};
 ghost use mathlib.Core.Bool.{true};
@@ -8,8 +8,6 @@ ghost use Rattle.automaton.specs.Value.{Valid, empty};
 
 pub mod names;
 mod naming;
-pub mod powers;
-pub mod refusal;
 pub mod states;
 mod tables;
 

@@ -2,11 +2,11 @@
 // many readings were accepted, and the sum of their states.
 use console::input;
 use console::output;
+use console_numerals::Number;
+use console_places::part::first;
 use hoa_read::Answer;
 use libc::STDOUT_FILENO;
-use numerals::Number;
 use std::num::wrapping_add_u64;
-use text_places::part::first;
 
 // Bytes of a slot: a text, and line feeds behind it.
 const SLOT: usize = 4096;

@@ -19,9 +19,9 @@ use Rattle.encoding.specs.Clauses.{each}
 use Rattle.encoding.specs.Loops.{each-length}
 use Rattle.decimal.specs.Wrote.{Wrote}
 use Rattle.decimal.specs.Writing.{wrote-none, wrote-one, wrote-then, wrote-length}
-use Rattle.variables.specs.declared.sizes.Sizes.{Sizes}
-use Rattle.variables.specs.Sizes.{Fitting}
-use Rattle.variables.specs.Numbers.{numberOf, Numbered, LiteralIfAny}
+use Rattle.clause_variables.specs.declared.sizes.Sizes.{Sizes}
+use Rattle.clause_variables.specs.Sizes.{Fitting}
+use Rattle.clause_variables.specs.Numbers.{numberOf, Numbered, LiteralIfAny}
 use Rattle.clause_list.specs.declared.indices.Indices.{Indices}
 use Rattle.clause_list.specs.Indices.{markLiteral, marksOf, premiseOf}
 

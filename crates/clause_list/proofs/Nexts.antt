@@ -7,8 +7,8 @@ use lib.IntN.{ℤ}
 use lib.ListN.{length}
 use Rattle.encoding.specs.Positions.{at-position, positions}
 use Rattle.decimal.specs.Wrote.{Wrote}
-use Rattle.variables.specs.declared.sizes.Sizes.{Sizes}
-use Rattle.variables.specs.Numbers.{numberOf}
+use Rattle.clause_variables.specs.declared.sizes.Sizes.{Sizes}
+use Rattle.clause_variables.specs.Numbers.{numberOf}
 use Rattle.clause_list.specs.declared.extent.Extent.{Extent}
 use Rattle.clause_list.specs.Tables.{taskOf}
 use Rattle.clause_list.specs.Position.{Stands, one, none}

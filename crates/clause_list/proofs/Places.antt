@@ -11,8 +11,8 @@ use lib.Pow.{pow-pos}
 use Rattle.encoding.specs.Clauses.{_∪_, only}
 use Rattle.encoding.specs.Numbering.{split}
 use Rattle.decimal.specs.Wrote.{Wrote}
-use Rattle.variables.specs.declared.sizes.Sizes.{Sizes}
-use Rattle.variables.specs.Sizes.{Fitting}
+use Rattle.clause_variables.specs.declared.sizes.Sizes.{Sizes}
+use Rattle.clause_variables.specs.Sizes.{Fitting}
 use Rattle.clause_list.specs.declared.indices.Indices.{Indices}
 use Rattle.clause_list.specs.declared.digits.Marking.{Marking}
 use Rattle.clause_list.specs.declared.digits.Transition.{Transition}

@@ -15,10 +15,10 @@ use Rattle.encoding.specs.Numbering.{split}
 use Rattle.encoding.specs.Loops.{each-length}
 use Rattle.decimal.specs.Wrote.{Wrote}
 use Rattle.decimal.specs.Writing.{wrote-length}
-use Rattle.variables.specs.declared.sizes.Sizes.{Sizes}
-use Rattle.variables.specs.Sizes.{Fitting}
-use Rattle.variables.specs.Limits.{candidate-subsets-le, reference-subsets-le}
-use Rattle.variables.specs.Numbers.{numberOf}
+use Rattle.clause_variables.specs.declared.sizes.Sizes.{Sizes}
+use Rattle.clause_variables.specs.Sizes.{Fitting}
+use Rattle.clause_variables.specs.Limits.{candidate-subsets-le, reference-subsets-le}
+use Rattle.clause_variables.specs.Numbers.{numberOf}
 use Rattle.clause_list.specs.declared.extent.Extent.{Extent}
 use Rattle.clause_list.specs.Groups.{totalityOf}
 use Rattle.clause_list.specs.Position.{Stands, one, none, oneFull}

@@ -4,7 +4,7 @@ use mathlib.Core.List.{List}
 use Prim.Native.Nat.{ℕ, _+_, _*_, _/_, _%_, _^_, _<_}
 use lib.ListN.{getD}
 use Rattle.encoding.specs.Numbering.{split}
-use Rattle.variables.specs.declared.sizes.Sizes.{Sizes}
+use Rattle.clause_variables.specs.declared.sizes.Sizes.{Sizes}
 use Rattle.clause_list.specs.declared.indices.Indices.{Indices}
 use Rattle.clause_list.specs.declared.digits.Marking.{Marking}
 use Rattle.clause_list.specs.declared.digits.Transition.{Transition}

@@ -8,8 +8,8 @@ use lib.IntN.{ℤ, pos, negℤ}
 use Rattle.meaning.specs.BitSet.{has}
 use Rattle.encoding.specs.Variables.{step, mark, path}
 use Rattle.encoding.specs.Clauses.{each}
-use Rattle.variables.specs.declared.sizes.Sizes.{Sizes}
-use Rattle.variables.specs.Numbers.{numberOf}
+use Rattle.clause_variables.specs.declared.sizes.Sizes.{Sizes}
+use Rattle.clause_variables.specs.Numbers.{numberOf}
 use Rattle.clause_list.specs.declared.indices.Indices.{Indices}
 use Rattle.clause_list.specs.declared.extent.Extent.{Extent}
 

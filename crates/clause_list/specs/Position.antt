@@ -13,8 +13,8 @@ use Rattle.encoding.specs.MarkSets.{set-of-has}
 use Rattle.encoding.specs.Base.{exactly-one-full}
 use Rattle.encoding.specs.Positions.{at₁, successor-at, at₃, at₄}
 use Rattle.decimal.specs.Wrote.{Wrote}
-use Rattle.variables.specs.declared.sizes.Sizes.{Sizes}
-use Rattle.variables.specs.Numbers.{numberOf}
+use Rattle.clause_variables.specs.declared.sizes.Sizes.{Sizes}
+use Rattle.clause_variables.specs.Numbers.{numberOf}
 use Rattle.clause_list.specs.Tables.{tabled, taskOf, Tables}
 use Rattle.clause_list.specs.Groups.{totalityOf, initialOf, successorOf, extensionOf}
 use Rattle.clause_list.specs.Indices.{premiseOf, extensions, closures, extensionIndices}

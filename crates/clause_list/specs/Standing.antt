@@ -4,8 +4,8 @@ use mathlib.Core.List.{List, [], _∷_}
 use Prim.Native.Nat.{ℕ, _-_, _/_, _%_, _≤_, _<_}
 use borrow.Author.Tests.{lt-ltb, le-ltb}
 use Rattle.encoding.specs.Positions.{then-at, at₂, at₃, at₄, at-position}
-use Rattle.variables.specs.declared.sizes.Sizes.{Sizes}
-use Rattle.variables.specs.Numbers.{numberOf}
+use Rattle.clause_variables.specs.declared.sizes.Sizes.{Sizes}
+use Rattle.clause_variables.specs.Numbers.{numberOf}
 use Rattle.clause_list.specs.declared.extent.Extent.{Extent}
 use Rattle.clause_list.specs.Tables.{taskOf, Tables}
 use Rattle.clause_list.specs.Groups.{totalityOf, initialOf}

@@ -1,6 +1,6 @@
 // How many positions a file has.
-use variables::sizes::Sizes;
-ghost use Rattle.variables.specs.Sizes.{Fitting};
+use clause_variables::sizes::Sizes;
+ghost use Rattle.clause_variables.specs.Sizes.{Fitting};
 ghost use Rattle.clause_list.specs.Indices.{ExtentOf};
 
 // How many positions groups 1, 2 and 3 have, and how many there are in all.

@@ -4,11 +4,11 @@ use crate::digits::transition_at;
 use automaton::Automaton;
 use automaton::states::CandidateState;
 use automaton::states::ReferenceState;
-use variables::sizes::Sizes;
+use clause_variables::sizes::Sizes;
 ghost use mathlib.Core.Path.{_≡_};
 ghost use Prim.Native.Nat.{_+_, _*_, _<_};
 ghost use lib.ListN.{getD};
-ghost use Rattle.variables.specs.Sizes.{Fitting};
+ghost use Rattle.clause_variables.specs.Sizes.{Fitting};
 ghost use Rattle.clause_list.specs.Indices.{Within, extensions, extensionIndices};
 
 // The indices of group 3, in its order. Group 4 has them with t = q and u the reference's step from v by l.

@@ -1,19 +1,19 @@
 // What groups 3 and 4 have in common.
 use crate::indices::Indices;
 use automaton::states::CandidateState;
-use variables::literals::negative;
-use variables::literals::positive;
-use variables::numbers::mark_number;
-use variables::numbers::path_number;
-use variables::numbers::step_number;
-use variables::sizes::Sizes;
+use clause_variables::literals::negative;
+use clause_variables::literals::positive;
+use clause_variables::numbers::mark_number;
+use clause_variables::numbers::path_number;
+use clause_variables::numbers::step_number;
+use clause_variables::sizes::Sizes;
 ghost use mathlib.Core.Path.{_≡_};
 ghost use Prim.Native.Nat.{_≤_, _<_};
 ghost use lib.ListN.{length};
 ghost use Rattle.encoding.specs.Variables.{mark};
 ghost use Rattle.decimal.specs.Wrote.{Wrote};
-ghost use Rattle.variables.specs.Sizes.{Fitting};
-ghost use Rattle.variables.specs.Numbers.{InFile};
+ghost use Rattle.clause_variables.specs.Sizes.{Fitting};
+ghost use Rattle.clause_variables.specs.Numbers.{InFile};
 ghost use Rattle.clause_list.specs.Indices.{Within, markLiteral, marksOf, premiseOf};
 
 // -path(q, u, p, v, I, J), -step(p, l, t), and the marks of p, l, t against K. All of group 4's clause, where t = q and u is the

@@ -6,17 +6,17 @@ use Prim.Native.Nat.{ℕ}
 use native.Mathlib.Omega.{arith}
 use lib.ListN.{length}
 use Rattle.automaton.specs.declared.Automaton.{Automaton}
-use Rattle.variables.specs.declared.sizes.Sizes.{Sizes}
-use Rattle.variables.specs.Numbers.{numberOf}
-use Rattle.variables.specs.Measured.{Measured}
+use Rattle.clause_variables.specs.declared.sizes.Sizes.{Sizes}
+use Rattle.clause_variables.specs.Numbers.{numberOf}
+use Rattle.clause_variables.specs.Measured.{Measured}
 use Rattle.clause_list.specs.Tables.{taskOf}
 use Rattle.clause_list.specs.Measured.{measured-task, measured-number}
 use Rattle.clause_list.specs.Next.{next-clause}
-use Rattle.clauses.specs.declared.Answer.{Answer}
-use Rattle.clauses.specs.declared.Answer.the-variants.{Written, Ended, Refused}
-use Rattle.clauses.specs.declared.Handed.{Handed}
-use Rattle.clauses.specs.Step.{Accepted}
-use Rattle.clauses.specs.Shared.{measured-found}
+use Rattle.clause_step.specs.declared.Answer.{Answer}
+use Rattle.clause_step.specs.declared.Answer.the-variants.{Written, Ended, Refused}
+use Rattle.clause_step.specs.declared.Handed.{Handed}
+use Rattle.clause_step.specs.Step.{Accepted}
+use Rattle.clause_step.specs.Shared.{measured-found}
 use Rattle.clause_text.specs.declared.batch.Filled.{Filled}
 use Rattle.clause_text.specs.Answers.{LineFound, LineAnswers, LineStepped, Batch, BatchFound, BatchAnswers, BatchStepped}
 use Rattle.clause_text.specs.Filling.{Filling}

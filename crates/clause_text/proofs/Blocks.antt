@@ -18,9 +18,9 @@ use Rattle.encoding.specs.Loops.{each-same, each-add, each-length}
 use Rattle.encoding.specs.Positions.{positions, at-position}
 use Rattle.decimal.specs.Wrote.{Wrote}
 use Rattle.decimal.specs.Writing.{wrote-none, wrote-then}
-use Rattle.variables.specs.declared.sizes.Sizes.{Sizes}
-use Rattle.variables.specs.Sizes.{Fitting}
-use Rattle.variables.specs.Numbers.{numberOf}
+use Rattle.clause_variables.specs.declared.sizes.Sizes.{Sizes}
+use Rattle.clause_variables.specs.Sizes.{Fitting}
+use Rattle.clause_variables.specs.Numbers.{numberOf}
 use Rattle.clause_list.specs.declared.indices.Indices.{Indices}
 use Rattle.clause_list.specs.declared.extent.Extent.{Extent}
 use Rattle.clause_list.specs.Tables.{taskOf, Tables}

@@ -5,7 +5,7 @@ use native.Mathlib.Omega.{arith}
 use lib.Arith.{digits-lt, digits-div, digits-mod}
 use lib.Pow.{pow-pos}
 use Rattle.encoding.specs.Numbering.{split}
-use Rattle.variables.specs.declared.sizes.Sizes.{Sizes}
+use Rattle.clause_variables.specs.declared.sizes.Sizes.{Sizes}
 use Rattle.clause_list.specs.declared.indices.Indices.{Indices}
 use Rattle.clause_list.specs.Indices.{extensions, extensionIndices}
 use Rattle.clause_text.specs.Blocks.{Follows}

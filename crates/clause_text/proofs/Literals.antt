@@ -12,10 +12,10 @@ use lib.Arith.{digits-lt, digits-div, digits-mod}
 use Rattle.encoding.specs.Variables.{path}
 use Rattle.decimal.specs.Wrote.{Wrote}
 use Rattle.decimal.specs.Writing.{wrote-length, wrote-front}
-use Rattle.variables.specs.declared.sizes.Sizes.{Sizes}
-use Rattle.variables.specs.Sizes.{Fitting}
-use Rattle.variables.specs.Limits.{candidate-subsets-le, reference-subsets-le}
-use Rattle.variables.specs.Numbers.{InFile, Numbered}
+use Rattle.clause_variables.specs.declared.sizes.Sizes.{Sizes}
+use Rattle.clause_variables.specs.Sizes.{Fitting}
+use Rattle.clause_variables.specs.Limits.{candidate-subsets-le, reference-subsets-le}
+use Rattle.clause_variables.specs.Numbers.{InFile, Numbered}
 use Rattle.clause_list.specs.declared.indices.Indices.{Indices}
 use Rattle.clause_list.specs.Indices.{Within, premiseOf}
 use Rattle.clause_text.specs.Text.{literalText}

@@ -10,10 +10,10 @@ use Rattle.automaton.specs.View.{view}
 use Rattle.encoding.specs.Variables.{base, base-number}
 use Rattle.decimal.specs.Wrote.{Wrote}
 use Rattle.clause_list.specs.Next.{handed, ended}
-use Rattle.clauses.specs.declared.Answer.{Answer}
-use Rattle.clauses.specs.declared.Answer.the-variants.{Written, Ended, Refused}
-use Rattle.clauses.specs.declared.Handed.{Handed}
-use Rattle.clauses.specs.Step.{TurnedDown, Accepted, returned, found-from}
+use Rattle.clause_step.specs.declared.Answer.{Answer}
+use Rattle.clause_step.specs.declared.Answer.the-variants.{Written, Ended, Refused}
+use Rattle.clause_step.specs.declared.Handed.{Handed}
+use Rattle.clause_step.specs.Step.{TurnedDown, Accepted, returned, found-from}
 use Rattle.clause_text.specs.Text.{lineText}
 use Rattle.clause_text.specs.Filling.{Filling}
 

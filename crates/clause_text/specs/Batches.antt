@@ -7,11 +7,11 @@ use lib.ListN.{take}
 use Rattle.automaton.specs.declared.Automaton.{Automaton}
 use Rattle.automaton.specs.View.{view}
 use Rattle.encoding.specs.Clauses.{base-file}
-use Rattle.clauses.specs.declared.Answer.{Answer}
-use Rattle.clauses.specs.declared.Answer.the-variants.{Written, Ended, Refused}
-use Rattle.clauses.specs.Calls.{CallOn, CallsOn, RefusedShort}
+use Rattle.clause_step.specs.declared.Answer.{Answer}
+use Rattle.clause_step.specs.declared.Answer.the-variants.{Written, Ended, Refused}
+use Rattle.clause_step.specs.Calls.{CallOn, CallsOn, RefusedShort}
 use Rattle.clause_text.specs.Text.{linesText}
-use Rattle.clauses.specs.declared.Handed.{Handed}
+use Rattle.clause_step.specs.declared.Handed.{Handed}
 use Rattle.clause_text.specs.Answers.{LineStepped, BatchStepped}
 
 -- a call for a line, or for a batch of lines

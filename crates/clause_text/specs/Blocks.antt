@@ -9,8 +9,8 @@ use lib.ListN.{length}
 use Rattle.encoding.specs.Variables.{step, path}
 use Rattle.encoding.specs.Clauses.{each}
 use Rattle.decimal.specs.Wrote.{Wrote}
-use Rattle.variables.specs.declared.sizes.Sizes.{Sizes}
-use Rattle.variables.specs.Numbers.{numberOf}
+use Rattle.clause_variables.specs.declared.sizes.Sizes.{Sizes}
+use Rattle.clause_variables.specs.Numbers.{numberOf}
 use Rattle.clause_list.specs.declared.indices.Indices.{Indices}
 use Rattle.clause_list.specs.Indices.{marksOf, extensions, extensionIndices}
 use Rattle.clause_list.specs.Position.{extensionAt}

@@ -21,9 +21,9 @@ use Rattle.encoding.specs.Membership.{Listed, a-totality, the-initial, a-succes
 use Rattle.encoding.specs.Literals.{IsLiteral, literals}
 use Rattle.encoding.specs.Base.{base-numbering, base-well-posed}
 use Rattle.decimal.specs.Digits.{decimal-at-most}
-use Rattle.variables.specs.declared.sizes.Sizes.{Sizes}
-use Rattle.variables.specs.Sizes.{Dimensioned}
-use Rattle.variables.specs.Numbers.{numberOf}
+use Rattle.clause_variables.specs.declared.sizes.Sizes.{Sizes}
+use Rattle.clause_variables.specs.Sizes.{Dimensioned}
+use Rattle.clause_variables.specs.Numbers.{numberOf}
 use Rattle.clause_list.specs.Tables.{tabled, taskOf, Tables}
 use Rattle.clause_list.specs.Next.{handed, next-clause, clauses-from}
 use Rattle.clause_list.specs.Following.{from-in-file, found-in-file}

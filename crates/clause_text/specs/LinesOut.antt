@@ -11,15 +11,15 @@ use Rattle.automaton.specs.Value.{Valid}
 use Rattle.automaton.specs.View.{view}
 use Rattle.encoding.specs.Variables.{base, base-number}
 use Rattle.decimal.specs.Writing.{wrote-front}
-use Rattle.variables.specs.Sizes.{Dimensioned}
+use Rattle.clause_variables.specs.Sizes.{Dimensioned}
 use Rattle.clause_list.specs.Next.{Found, clauses-from}
 use Rattle.clause_list.specs.Following.{First, next-first, from-start, position-of}
-use Rattle.clauses.specs.declared.Answer.{Answer}
-use Rattle.clauses.specs.declared.Answer.the-variants.{Written, Ended, Refused}
-use Rattle.clauses.specs.declared.Handed.{Handed}
-use Rattle.clauses.specs.Step.{found-from, fresh-position, last-position}
-use Rattle.clauses.specs.Range.{positions-le, stays-in-range}
-use Rattle.clauses.specs.Refusals.{turned-down-short, Stays, refused-from}
+use Rattle.clause_step.specs.declared.Answer.{Answer}
+use Rattle.clause_step.specs.declared.Answer.the-variants.{Written, Ended, Refused}
+use Rattle.clause_step.specs.declared.Handed.{Handed}
+use Rattle.clause_step.specs.Step.{found-from, fresh-position, last-position}
+use Rattle.clause_step.specs.Range.{positions-le, stays-in-range}
+use Rattle.clause_step.specs.Refusals.{turned-down-short, Stays, refused-from}
 use Rattle.clause_text.specs.Text.{lineText, linesText}
 use Rattle.clause_text.specs.LineLength.{left-line-le}
 use Rattle.clause_text.specs.Answers.{LineAnswers, BatchAnswers, Batch}

@@ -2,18 +2,18 @@
 use crate::batch::fill;
 use crate::batch::next_line;
 use automaton::Automaton;
-use automaton::refusal::Refusal;
 use automaton::states::ReferenceState;
 use clause_list::extent::extent_of;
-use clauses::Answer;
-use clauses::Handed;
-use clauses::LAST;
-use variables::sizes::Sized;
-use variables::sizes::Sizes;
-use variables::sizes::measure;
+use clause_step::Answer;
+use clause_step::Handed;
+use clause_step::LAST;
+use clause_variables::sizes::Sized;
+use clause_variables::sizes::Sizes;
+use clause_variables::sizes::measure;
+use refusals::Refusal;
 ghost use Prim.Native.Nat.{_≤_};
 ghost use lib.ListN.{length};
-ghost use Rattle.variables.specs.Measured.{Measured};
+ghost use Rattle.clause_variables.specs.Measured.{Measured};
 ghost use Rattle.clause_text.specs.Answers.{LineStepped, LineFound, BatchStepped, BatchFound};
 
 mod batch;

@@ -1,9 +1,9 @@
 // The order of a block's positions.
 use automaton::states::ReferenceState;
 use clause_list::indices::Indices;
-use variables::sizes::Sizes;
+use clause_variables::sizes::Sizes;
 ghost use mathlib.Core.Path.{_≡_};
-ghost use Rattle.variables.specs.Sizes.{Fitting};
+ghost use Rattle.clause_variables.specs.Sizes.{Fitting};
 ghost use Rattle.clause_list.specs.Indices.{Within};
 ghost use Rattle.clause_text.specs.Blocks.{Follows};
 

@@ -7,7 +7,7 @@ use Rattle.meaning.specs.Tests.{all}
 use Rattle.meaning.specs.TestLaws.{same-truth}
 use Rattle.meaning.specs.BitSet.{has}
 use Rattle.meaning.specs.BitSetLaws.{full-mod, mod-full}
-use Rattle.automaton.specs.Powers.{power-is}
+use Rattle.bits.specs.Powers.{power-is}
 
 pub full-bits : (k m f : ℕ) → k ≤ 4 → f ≡ 2 ^ min k 4 → eqb (m % f) (f - 1) ≡ all k (has m)
 full-bits k m f h e =

@@ -7,10 +7,10 @@ use native.Mathlib.Omega.{arith}
 use lib.ListN.{length, drop}
 use Rattle.meaning.specs.Decision.{distinguished}
 use Rattle.automaton.specs.declared.Automaton.{Automaton}
-use Rattle.automaton.specs.declared.refusal.Refusal.the-variants.{Outside, Differ, Short, Propositions}
+use Rattle.refusals.specs.declared.Refusal.the-variants.{Outside, Differ, Short, Propositions}
 use Rattle.automaton.specs.Value.{Valid}
-use Rattle.shortest.specs.declared.Verdict.{Verdict}
-use Rattle.shortest.specs.declared.Verdict.the-variants.{Same as None, Differ as Found, Unfit}
+use Rattle.compare_shortest.specs.declared.Verdict.{Verdict}
+use Rattle.compare_shortest.specs.declared.Verdict.the-variants.{Same as None, Differ as Found, Unfit}
 use Rattle.compare.specs.declared.Comparison.{Comparison}
 use Rattle.compare.specs.declared.Comparison.the-variants.{Refused}
 use Rattle.compare.specs.Compared.{Compared, returned}

@@ -7,9 +7,9 @@ use Prim.Native.Nat.{ℕ, suc, _*_, _≤_, _<_, max}
 use lib.ListN.{length, drop}
 use Rattle.meaning.specs.Agreement.{Agree, Distinguishes}
 use Rattle.automaton.specs.declared.Automaton.{Automaton}
-use Rattle.automaton.specs.declared.refusal.Code.{Code}
-use Rattle.automaton.specs.declared.refusal.Refusal.the-variants.{Outside, Differ, Short, Propositions}
-use Rattle.automaton.specs.Refused.{row, codeOf}
+use Rattle.refusals.specs.declared.Code.{Code}
+use Rattle.refusals.specs.declared.Refusal.the-variants.{Outside, Differ, Short, Propositions}
+use Rattle.refusals.specs.Refused.{row, codeOf}
 use Rattle.automaton.specs.Value.{Valid}
 use Rattle.automaton.specs.View.{view}
 use Rattle.compare.specs.declared.Comparison.{Comparison}

@@ -19,9 +19,10 @@ use Rattle.automaton.specs.declared.Automaton.{Automaton}
 use Rattle.automaton.specs.Value.{Valid, letters}
 use Rattle.automaton.specs.View.{view}
 use Rattle.automaton.specs.ViewLaws.{view-formed}
-use Rattle.automaton.specs.Powers.{power-le, letters-le}
-use Rattle.shortest.specs.Difference.{entry, met, Shows, InRange, Below}
-use Rattle.shortest.specs.Met.{met-has, met-lt}
+use Rattle.bits.specs.Powers.{power-le}
+use Rattle.automaton.specs.Letters.{letters-le}
+use Rattle.compare_shortest.specs.Difference.{entry, met, Shows, InRange, Below}
+use Rattle.compare_shortest.specs.Met.{met-has, met-lt}
 use Rattle.compare.specs.Acceptance.{Judged, unlike, unlike-zero, zero-unlike}
 
 -- ---- the tables of a value in "The automaton"

@@ -7,14 +7,14 @@ use native.Mathlib.Omega.{arith}
 use lib.ListN.{length, drop}
 use Rattle.meaning.specs.Agreement.{Agree}
 use Rattle.automaton.specs.declared.Automaton.{Automaton}
-use Rattle.automaton.specs.declared.refusal.Refusal.the-variants.{Outside, Differ}
+use Rattle.refusals.specs.declared.Refusal.the-variants.{Outside, Differ}
 use Rattle.automaton.specs.Value.{Valid, letters}
 use Rattle.automaton.specs.View.{view}
-use Rattle.automaton.specs.Powers.{letters-le}
-use Rattle.shortest.specs.declared.Verdict.{Verdict}
-use Rattle.shortest.specs.declared.Verdict.the-variants.{Same as None, Differ as Found, Unfit}
-use Rattle.shortest.specs.Difference.{Shows, Fit}
-use Rattle.shortest.specs.Order.{Answer, Answered, Within, Precedes}
+use Rattle.automaton.specs.Letters.{letters-le}
+use Rattle.compare_shortest.specs.declared.Verdict.{Verdict}
+use Rattle.compare_shortest.specs.declared.Verdict.the-variants.{Same as None, Differ as Found, Unfit}
+use Rattle.compare_shortest.specs.Difference.{Shows, Fit}
+use Rattle.compare_shortest.specs.Order.{Answer, Answered, Within, Precedes}
 use Rattle.compare.specs.declared.Comparison.{Comparison}
 use Rattle.compare.specs.declared.Comparison.the-variants.{Same, Refused}
 use Rattle.compare.specs.Compared.{Witness}

@@ -1,13 +1,13 @@
 // Where the acceptances of two automata differ.
-use automaton::powers::power_of_two;
-use shortest::HITS;
-use shortest::MARKS;
+use bits::powers::power_of_two;
+use compare_shortest::HITS;
+use compare_shortest::MARKS;
 ghost use mathlib.Core.Path.{_≡_};
 ghost use Prim.Native.Nat.{_≤_};
 ghost use lib.ListN.{length};
 ghost use Rattle.meaning.specs.Tests.{all};
 ghost use Rattle.meaning.specs.BitSet.{has};
-ghost use Rattle.shortest.specs.Sizes.{hitCount};
+ghost use Rattle.compare_shortest.specs.Sizes.{hitCount};
 ghost use Rattle.compare.specs.Acceptance.{unlike, Judged};
 
 // The table of the pairs of sets of marks that one automaton accepts and the other does not: that of the first times `MARKS`, and that of the second.

@@ -1,9 +1,9 @@
 // The comparison of two automata: the same, or a lasso word that shows the difference.
 use automaton::Automaton;
-use automaton::powers::power_of_two;
-use automaton::refusal::Refusal;
-use shortest::HITS;
-use shortest::Verdict;
+use bits::powers::power_of_two;
+use compare_shortest::HITS;
+use compare_shortest::Verdict;
+use refusals::Refusal;
 ghost use mathlib.Core.Path.{_≡_};
 ghost use lib.ListN.{length};
 ghost use Rattle.compare.specs.Compared.{Compared};
@@ -62,7 +62,7 @@ fn difference(first: Automaton, second: Automaton, prefix: &mut [u8], cycle: &mu
     let second_marks = second.marks;
     let mut hits = [0u8; HITS];
     acceptance::judge_all(first.sets, second.sets, &mut hits);
-    shortest::difference(
+    compare_shortest::difference(
         &first_next,
         &first_marks,
         &second_next,

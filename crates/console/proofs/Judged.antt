@@ -5,7 +5,7 @@ use Prim.Native.Nat.{ℕ}
 use native.Mathlib.Omega.{arith}
 use denote.Enum.Declared.{tagOf, declared}
 use Rattle.automaton.specs.declared.Automaton.{Automaton}
-use Rattle.automaton.specs.declared.refusal.Refusal.{Refusal}
+use Rattle.refusals.specs.declared.Refusal.{Refusal}
 use Rattle.automaton.specs.Value.{empty}
 use Rattle.hoa_text.specs.Grammar.{Result, gives, refuses}
 use Rattle.hoa_read.specs.declared.Answer.the-variants.{Refused}

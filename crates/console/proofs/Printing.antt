@@ -6,7 +6,7 @@ use native.Mathlib.Omega.{arith}
 use lib.ListN.{length, take, drop}
 use lib.Seq.{take-append-seam}
 use Rattle.automaton.specs.declared.Automaton.{Automaton}
-use Rattle.automaton.specs.declared.refusal.Refusal.{Refusal}
+use Rattle.refusals.specs.declared.Refusal.{Refusal}
 use Rattle.hoa_text.specs.Written.{text}
 use Rattle.hoa_write.specs.declared.Written.{Written}
 use Rattle.hoa_write.specs.declared.Written.the-variants.{Text, Refused}

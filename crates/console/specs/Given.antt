@@ -8,8 +8,8 @@ use Rattle.automaton.specs.declared.Automaton.{Automaton}
 use Rattle.automaton.specs.Value.{empty}
 use Rattle.hoa_text.specs.Grammar.{Result, gives, refuses}
 use Rattle.hoa_text.specs.Reading.{read}
-use Rattle.numerals.specs.declared.Number.the-variants.{None}
-use Rattle.numerals.specs.Numbers.{numberOf}
+use Rattle.console_numerals.specs.declared.Number.the-variants.{None}
+use Rattle.console_numerals.specs.Numbers.{numberOf}
 use Rattle.console.specs.declared.input.Given.{Given}
 use Rattle.console.specs.declared.input.Held.{Held}
 use Rattle.console.specs.declared.input.Numbered.{Numbered}

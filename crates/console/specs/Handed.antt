@@ -5,17 +5,17 @@ use mathlib.Core.List.{List, [], _∷_, _++_}
 use Prim.Native.Nat.{ℕ}
 use lib.ListN.{length}
 use Rattle.automaton.specs.declared.Automaton.{Automaton}
-use Rattle.automaton.specs.declared.refusal.Refusal.{Refusal}
-use Rattle.automaton.specs.declared.refusal.Refusal.the-variants.{Outside}
-use Rattle.automaton.specs.Refused.{codeOf}
+use Rattle.refusals.specs.declared.Refusal.{Refusal}
+use Rattle.refusals.specs.declared.Refusal.the-variants.{Outside}
+use Rattle.refusals.specs.Refused.{codeOf}
 use Rattle.automaton.specs.Value.{Valid}
 use Rattle.automaton.specs.Bytes.{bytes}
 use Rattle.hoa_text.specs.Written.{text}
 use Rattle.hoa_write.specs.declared.Written.{Written}
 use Rattle.hoa_write.specs.declared.Written.the-variants.{Text, Refused}
-use Rattle.report.specs.Lines.{refusedLine}
-use Rattle.sentences.specs.Sentences.{sentence}
-use Rattle.text_places.specs.declared.Place.{Place}
+use Rattle.console_report.specs.Lines.{refusedLine}
+use Rattle.console_sentences.specs.Sentences.{sentence}
+use Rattle.console_places.specs.declared.Place.{Place}
 use Rattle.console.specs.declared.output.Printed.{Printed}
 use Rattle.console.specs.declared.output.TurnedDown.{TurnedDown}
 

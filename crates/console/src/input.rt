@@ -1,13 +1,13 @@
 // Arguments, and texts of automata.
 use crate::output::refuse;
 use automaton::Automaton;
-use automaton::refusal::Refusal;
+use console_numerals::Number;
+use console_numerals::parse;
+use console_places::of;
+use console_places::part::first;
 use hoa_read::Answer;
 use libc::STDIN_FILENO;
-use numerals::Number;
-use numerals::parse;
-use text_places::of;
-use text_places::part::first;
+use refusals::Refusal;
 ghost use mathlib.Core.Path.{_≡_};
 ghost use lib.ListN.{length, take};
 ghost use Rattle.hoa_text.specs.Reading.{read};

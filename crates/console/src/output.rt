@@ -1,24 +1,24 @@
 // Standard output and standard error. Each function tells how many bytes it handed over.
 use automaton::Automaton;
-use automaton::refusal::Code;
-use automaton::refusal::Refusal;
 use compare::Comparison;
+use console_places::Place;
+use console_places::part::first;
+use console_report::lasso::WORD;
+use console_report::lasso::word_lines;
+use console_report::lines;
+use console_report::lines::LINE;
+use console_sentences::SENTENCE;
+use console_sentences::sentence;
 use hoa_write::Written;
 use libc::STDERR_FILENO;
 use libc::STDOUT_FILENO;
-use report::lasso::WORD;
-use report::lasso::word_lines;
-use report::lines;
-use report::lines::LINE;
-use sentences::SENTENCE;
-use sentences::sentence;
-use text_places::Place;
-use text_places::part::first;
+use refusals::Code;
+use refusals::Refusal;
 ghost use mathlib.Core.Path.{_≡_};
 ghost use lib.ListN.{take, length as count};
 ghost use Rattle.hoa_write.specs.declared.Written.the-variants.{Text};
-ghost use Rattle.report.specs.Lines.{wordLines};
-ghost use Rattle.sentences.specs.Sentences.{sentence as sentenceOf};
+ghost use Rattle.console_report.specs.Lines.{wordLines};
+ghost use Rattle.console_sentences.specs.Sentences.{sentence as sentenceOf};
 ghost use Rattle.console.specs.Handed.{Hands, HandsAutomaton, HandsRefusal, usageLine};
 
 // How many bytes were handed over, and whether the output took them.

@@ -6,20 +6,20 @@ use Prim.Native.Nat.{ℕ, _≤_, _<_}
 use native.Mathlib.Omega.{arith}
 use lib.ListN.{length}
 use Rattle.automaton.specs.declared.Automaton.{Automaton}
-use Rattle.automaton.specs.declared.refusal.Refusal.{Refusal}
-use Rattle.automaton.specs.declared.refusal.Refusal.the-variants.{Outside, Dimensions, SolverForm, Short}
-use Rattle.automaton.specs.Refused.{row}
+use Rattle.refusals.specs.declared.Refusal.{Refusal}
+use Rattle.refusals.specs.declared.Refusal.the-variants.{Outside, Dimensions, SolverForm, Short}
+use Rattle.refusals.specs.Refused.{row}
 use Rattle.automaton.specs.Value.{Valid}
-use Rattle.variables.specs.Sizes.{Dimensioned}
-use Rattle.solution.specs.declared.Reader.{Reader}
-use Rattle.solution.specs.declared.Reply.{Reply}
+use Rattle.clause_variables.specs.Sizes.{Dimensioned}
+use Rattle.solver_text.specs.declared.Reader.{Reader}
+use Rattle.solver_text.specs.declared.Reply.{Reply}
 use denote.Enum.Declared.{tagOf, declared}
-use Rattle.solution.proofs.Answer.{enum}
-use Rattle.solution.specs.declared.Answer.{Answer}
-use Rattle.solution.specs.declared.Answer.the-variants.{Accepted, Refused as TurnedDown}
-use Rattle.solution.specs.declared.scan.Verdict.{Verdict}
-use Rattle.solution.specs.declared.scan.Verdict.the-variants.{Unstated, Satisfiable, Unsatisfiable, Unknown as NotKnown}
-use Rattle.solution.specs.Calls.{Called}
+use Rattle.solver_text.proofs.Answer.{enum}
+use Rattle.solver_text.specs.declared.Answer.{Answer}
+use Rattle.solver_text.specs.declared.Answer.the-variants.{Accepted, Refused as TurnedDown}
+use Rattle.solver_text.specs.declared.scan.Verdict.{Verdict}
+use Rattle.solver_text.specs.declared.scan.Verdict.the-variants.{Unstated, Satisfiable, Unsatisfiable, Unknown as NotKnown}
+use Rattle.solver_text.specs.Calls.{Called}
 use Rattle.decode.specs.declared.Answer.the-variants.{None, Unknown, Refused}
 use Rattle.decode.specs.declared.Decoded.{Decoded}
 use Rattle.decode.specs.Answers.{returned, whole, said, without, Untouched, ByAssignment, ByVerdict, Decodes}

@@ -6,8 +6,8 @@ use native.Mathlib.Omega.{arith}
 use denote.Enum.Declared.{tagOf, declared}
 use lib.ListN.{length}
 use Rattle.automaton.specs.declared.Automaton.{Automaton}
-use Rattle.automaton.specs.declared.refusal.Refusal.{Refusal}
-use Rattle.automaton.specs.declared.refusal.Refusal.the-variants.{Differ}
+use Rattle.refusals.specs.declared.Refusal.{Refusal}
+use Rattle.refusals.specs.declared.Refusal.the-variants.{Differ}
 use Rattle.compare.specs.declared.Comparison.{Comparison}
 use Rattle.compare.specs.declared.Comparison.the-variants.{Same, Refused as Objects}
 use Rattle.compare.specs.Compared.{Compared, Shown, Room}

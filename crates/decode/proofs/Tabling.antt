@@ -10,25 +10,25 @@ use lib.Arith.{digits-div, digits-mod}
 use lib.Dec.{eqb}
 use lib.ListN.{getD}
 use Rattle.automaton.specs.declared.Automaton.{Automaton}
-use Rattle.automaton.specs.declared.refusal.Code.{Code}
-use Rattle.automaton.specs.declared.refusal.Refusal.{Refusal}
-use Rattle.automaton.specs.declared.refusal.Refusal.the-variants.{NoStep}
+use Rattle.refusals.specs.declared.Code.{Code}
+use Rattle.refusals.specs.declared.Refusal.{Refusal}
+use Rattle.refusals.specs.declared.Refusal.the-variants.{NoStep}
 use Rattle.automaton.specs.Value.{Valid, letters}
-use Rattle.automaton.specs.Powers.{letters-le}
+use Rattle.automaton.specs.Letters.{letters-le}
 use Rattle.automaton.specs.Rows.{rows-same}
 use Rattle.encoding.specs.Clauses.{Assignment, destination, marks-of}
-use Rattle.variables.specs.declared.sizes.Sizes.{Sizes}
-use Rattle.variables.specs.declared.sizes.Sized.{Sized}
-use Rattle.variables.specs.declared.sizes.Sized.the-variants.{Refused as NoFile}
-use Rattle.variables.specs.Sizes.{Dimensioned, Refuses, outside, dimensions, Sizing, Fitting, sizesOf}
-use Rattle.variables.specs.Limits.{sizes-fit}
+use Rattle.clause_variables.specs.declared.sizes.Sizes.{Sizes}
+use Rattle.clause_variables.specs.declared.sizes.Sized.{Sized}
+use Rattle.clause_variables.specs.declared.sizes.Sized.the-variants.{Refused as NoFile}
+use Rattle.clause_variables.specs.Sizes.{Dimensioned, Refuses, outside, dimensions, Sizing, Fitting, sizesOf}
+use Rattle.clause_variables.specs.Limits.{sizes-fit}
 use Rattle.decode.specs.declared.Answer.the-variants.{Refused}
 use Rattle.decode.specs.declared.Decoded.{Decoded}
 use Rattle.decode.specs.Table.{entry, decodedTable, decodedValue, Steps, AllStep, LowestWithout}
 use Rattle.decode.specs.Answers.{without, ByComparison, ByAssignment}
 use Rattle.decode.specs.Value.{steps-lead, lead-steps, decoded-valid}
 use Rattle.decode.specs.Cells.{tableBy, Filled, FilledTo}
-use Rattle.variables.specs.Measured.{Measured, sizing-refused}
+use Rattle.clause_variables.specs.Measured.{Measured, sizing-refused}
 use Rattle.decode.specs.Ready.{Comparable, candidate}
 use Rattle.decode.proofs.Answering.{untouched}
 

@@ -8,24 +8,24 @@ use lib.Dec.{eqb}
 use lib.ListN.{length, getD}
 use Rattle.meaning.specs.Agreement.{Agree}
 use Rattle.automaton.specs.declared.Automaton.{Automaton}
-use Rattle.automaton.specs.declared.refusal.Code.{Code}
-use Rattle.automaton.specs.declared.refusal.Refusal.{Refusal}
-use Rattle.automaton.specs.declared.refusal.Refusal.the-variants.{Outside, Dimensions, SolverForm, NoStep, Differ, Short}
-use Rattle.automaton.specs.Refused.{row, codeOf}
+use Rattle.refusals.specs.declared.Code.{Code}
+use Rattle.refusals.specs.declared.Refusal.{Refusal}
+use Rattle.refusals.specs.declared.Refusal.the-variants.{Outside, Dimensions, SolverForm, NoStep, Differ, Short}
+use Rattle.refusals.specs.Refused.{row, codeOf}
 use Rattle.automaton.specs.Value.{Valid, empty}
 use Rattle.automaton.specs.View.{view}
 use Rattle.encoding.specs.Clauses.{Assignment}
 use Rattle.compare.specs.declared.Comparison.{Comparison}
 use Rattle.compare.specs.Compared.{Shown}
-use Rattle.variables.specs.Sizes.{Dimensioned}
-use Rattle.solution.specs.declared.Reader.{Reader}
-use Rattle.solution.specs.declared.Reply.{Reply}
-use Rattle.solution.specs.declared.Answer.the-variants.{Accepted, Refused as TurnedDown}
-use Rattle.solution.specs.declared.scan.Verdict.the-variants.{Unstated, Satisfiable, Unsatisfiable, Unknown as NotKnown}
-use Rattle.solution.specs.SolverText.{Seen, Outcome, gives, refused}
-use Rattle.solution.specs.Assignment.{asserted}
-use Rattle.solution.specs.Machine.{told, end}
-use Rattle.solution.specs.Calls.{InRange, last, kept}
+use Rattle.clause_variables.specs.Sizes.{Dimensioned}
+use Rattle.solver_text.specs.declared.Reader.{Reader}
+use Rattle.solver_text.specs.declared.Reply.{Reply}
+use Rattle.solver_text.specs.declared.Answer.the-variants.{Accepted, Refused as TurnedDown}
+use Rattle.solver_text.specs.declared.scan.Verdict.the-variants.{Unstated, Satisfiable, Unsatisfiable, Unknown as NotKnown}
+use Rattle.solver_text.specs.SolverText.{Seen, Outcome, gives, refused}
+use Rattle.solver_text.specs.Assignment.{asserted}
+use Rattle.solver_text.specs.Machine.{told, end}
+use Rattle.solver_text.specs.Calls.{InRange, last, kept}
 use Rattle.decode.specs.declared.Answer.{Answer}
 use Rattle.decode.specs.declared.Answer.the-variants.{Table, None, Unknown, Refused}
 use Rattle.decode.specs.declared.Decoded.{Decoded}

@@ -11,24 +11,24 @@ use Rattle.automaton.specs.declared.Automaton.{Automaton}
 use Rattle.automaton.specs.Value.{Valid}
 use Rattle.automaton.specs.View.{view}
 use Rattle.encoding.specs.Clauses.{Assignment, Satisfies, base-file}
-use Rattle.variables.specs.Sizes.{Dimensioned}
-use Rattle.solution.specs.declared.Reader.{Reader}
-use Rattle.solution.specs.declared.Reply.{Reply}
-use Rattle.solution.specs.SolverText.{Outcome, outcome}
-use Rattle.solution.specs.Assignment.{asserted, States}
-use Rattle.solution.specs.Machine.{fresh, told}
-use Rattle.solution.specs.Calls.{InRange, Reads, Ends, joined, last, kept}
-use Rattle.solution.specs.Answered.{called-text}
-use Rattle.solution.specs.Counts.{kept-le}
-use Rattle.solution.specs.Range.{run-kept}
-use Rattle.solution.specs.Table.{table-asserted}
-use Rattle.solution.specs.Pieces.{pieces, fresh-range, Tells, whole-text}
+use Rattle.clause_variables.specs.Sizes.{Dimensioned}
+use Rattle.solver_text.specs.declared.Reader.{Reader}
+use Rattle.solver_text.specs.declared.Reply.{Reply}
+use Rattle.solver_text.specs.SolverText.{Outcome, outcome}
+use Rattle.solver_text.specs.Assignment.{asserted, States}
+use Rattle.solver_text.specs.Machine.{fresh, told}
+use Rattle.solver_text.specs.Calls.{InRange, Reads, Ends, joined, last, kept}
+use Rattle.solver_text.specs.Answered.{called-text}
+use Rattle.solver_text.specs.Counts.{kept-le}
+use Rattle.solver_text.specs.Range.{run-kept}
+use Rattle.solver_text.specs.Table.{table-asserted}
+use Rattle.solver_text.specs.Pieces.{pieces, fresh-range, Tells, whole-text}
 use Rattle.decode.specs.declared.Decoded.{Decoded}
 use Rattle.decode.specs.Table.{decodedValue, LowestWithout}
 use Rattle.decode.specs.Answers.{whole, said, found, Untouched, ByComparison, ByAssignment, Admitted, Decodes, OfText}
 use Rattle.decode.specs.Value.{steps-same, all-step-same, decoded-same-value}
 use Rattle.decode.specs.Candidates.{satisfying-steps, satisfying-found}
-use Rattle.solution.specs.Ended.{end-kept, end-again}
+use Rattle.solver_text.specs.Ended.{end-kept, end-again}
 
 -- ---- the step and mark variables decide the answer
 

@@ -10,14 +10,14 @@ use Rattle.automaton.specs.declared.Automaton.{Automaton}
 use Rattle.automaton.specs.Value.{Valid, letters, markSet}
 use Rattle.automaton.specs.Value.{destination as destinationOf}
 use Rattle.automaton.specs.View.{view}
-use Rattle.automaton.specs.Powers.{letters-le}
+use Rattle.automaton.specs.Letters.{letters-le}
 use Rattle.automaton.specs.Rows.{rows-length, rows-at}
 use Rattle.encoding.specs.Variables.{step, mark, base-number}
 use Rattle.encoding.specs.Clauses.{Assignment, lowest, destination, marks-of, SameTable}
 use Rattle.encoding.specs.MarkSets.{set-of-lt, has-set-of, set-of-same}
 use Rattle.encoding.specs.Lowest.{lowest-true, lowest-same, lowest-passes}
-use Rattle.variables.specs.Sizes.{Dimensioned}
-use Rattle.solution.specs.Calls.{kept}
+use Rattle.clause_variables.specs.Sizes.{Dimensioned}
+use Rattle.solver_text.specs.Calls.{kept}
 use Rattle.decode.specs.Table.{entry, decodedTable, decodedValue, Steps, AllStep}
 use Rattle.decode.specs.Entries.{entry-used, entry-unused, entries-equal}
 use Rattle.decode.specs.Kept.{step-kept, mark-kept}

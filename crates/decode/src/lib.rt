@@ -1,20 +1,20 @@
 // The decoder: from solver text that was read to the table that it describes.
 use automaton::Automaton;
-use automaton::refusal::Refusal;
+use clause_variables::sizes::Sized;
+use clause_variables::sizes::Sizes;
+use clause_variables::sizes::measure;
 use compare::Comparison;
 use compare::compare;
-use solution::Reader;
-use solution::scan::Verdict;
-use variables::sizes::Sized;
-use variables::sizes::Sizes;
-use variables::sizes::measure;
+use refusals::Refusal;
+use solver_text::Reader;
+use solver_text::scan::Verdict;
 ghost use mathlib.Core.Path.{_≡_};
 ghost use Rattle.automaton.specs.Value.{Valid};
 ghost use Rattle.compare.specs.Compared.{Room};
-ghost use Rattle.variables.specs.Sizes.{Dimensioned};
+ghost use Rattle.clause_variables.specs.Sizes.{Dimensioned};
 ghost use Rattle.decode.specs.declared.Answer.the-variants.{Refused as RefusedWith};
 ghost use Rattle.decode.specs.Answers.{Decodes, ByVerdict, ByAssignment, ByComparison, said, found, without};
-ghost use Rattle.variables.specs.Measured.{Measured};
+ghost use Rattle.clause_variables.specs.Measured.{Measured};
 ghost use Rattle.decode.specs.Ready.{Comparable, candidate};
 
 mod cells;
@@ -56,8 +56,8 @@ pub fn decode(
     let reply = reader.finish(reference, n, m);
     let answer = reply.answer;
     match answer {
-        solution::Answer::Accepted => by_verdict(reference, n, m, reply.reader, prefix, cycle),
-        solution::Answer::Refused(refusal) => refused(refusal),
+        solver_text::Answer::Accepted => by_verdict(reference, n, m, reply.reader, prefix, cycle),
+        solver_text::Answer::Refused(refusal) => refused(refusal),
     }
 }
 

@@ -8,18 +8,18 @@ use native.Mathlib.Omega.{arith}
 use lib.IntN.{ℤ}
 use lib.ListN.{length}
 use Rattle.automaton.specs.declared.Automaton.{Automaton}
-use Rattle.automaton.specs.declared.refusal.Code.{Code}
-use Rattle.automaton.specs.declared.refusal.Refusal.{Refusal}
-use Rattle.variables.specs.Sizes as sizes
-use Rattle.variables.specs.Sizes.{Refuses}
-use Rattle.clauses.specs.declared.Answer.{Answer}
-use Rattle.clauses.specs.declared.Answer.the-variants.{Written as Wrote, Ended, Refused}
-use Rattle.clauses.specs.declared.Handed.{Handed}
-use Rattle.clauses.specs.declared.header.Totals.{Totals}
-use Rattle.clauses.specs.declared.header.Totals.the-variants as header
-use Rattle.clauses.specs.Step as calls
-use Rattle.clauses.specs.Step.{Stepped, StepAnswers, returned as step-said}
-use Rattle.clauses.specs.Header.{Headed, returned as header-said}
+use Rattle.refusals.specs.declared.Code.{Code}
+use Rattle.refusals.specs.declared.Refusal.{Refusal}
+use Rattle.clause_variables.specs.Sizes as sizes
+use Rattle.clause_variables.specs.Sizes.{Refuses}
+use Rattle.clause_step.specs.declared.Answer.{Answer}
+use Rattle.clause_step.specs.declared.Answer.the-variants.{Written as Wrote, Ended, Refused}
+use Rattle.clause_step.specs.declared.Handed.{Handed}
+use Rattle.clause_step.specs.declared.header.Totals.{Totals}
+use Rattle.clause_step.specs.declared.header.Totals.the-variants as header
+use Rattle.clause_step.specs.Step as calls
+use Rattle.clause_step.specs.Step.{Stepped, StepAnswers, returned as step-said}
+use Rattle.clause_step.specs.Header.{Headed, returned as header-said}
 use Rattle.clause_text.specs.Answers.{LineStepped, LineAnswers, BatchStepped, BatchAnswers}
 use Rattle.demands.specs.Judgement.{Accepted, Judged}
 use Rattle.demands.specs.Conditions.{to-count, to-hand-out}

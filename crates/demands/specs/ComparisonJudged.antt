@@ -8,8 +8,8 @@ use native.Mathlib.Decide.{ℕ-discrete, decLe}
 use native.Mathlib.Omega.{arith}
 use lib.ListN.{length}
 use Rattle.automaton.specs.declared.Automaton.{Automaton}
-use Rattle.automaton.specs.declared.refusal.Code.{Code}
-use Rattle.automaton.specs.declared.refusal.Refusal.{Refusal}
+use Rattle.refusals.specs.declared.Code.{Code}
+use Rattle.refusals.specs.declared.Refusal.{Refusal}
 use Rattle.compare.specs.declared.Comparison.{Comparison}
 use Rattle.compare.specs.declared.Comparison.the-variants.{Same, Refused}
 use Rattle.compare.specs.Compared.{Compared, Untouched, returned as comparison-said}

@@ -9,8 +9,8 @@ use Prim.Native.Nat.{ℕ, _≤_}
 use lib.ListN.{length, drop}
 use Rattle.meaning.specs.Agreement.{Agree}
 use Rattle.automaton.specs.declared.Automaton.{Automaton}
-use Rattle.automaton.specs.declared.refusal.Code.{Code}
-use Rattle.automaton.specs.Refused.{row}
+use Rattle.refusals.specs.declared.Code.{Code}
+use Rattle.refusals.specs.Refused.{row}
 use Rattle.automaton.specs.Value.{Valid}
 use Rattle.automaton.specs.View.{view}
 use Rattle.encoding.specs.Clauses.{Assignment}
@@ -20,13 +20,13 @@ use Rattle.compare.specs.Compared.{returned as comparison-said, Witness}
 use Rattle.hoa_text.specs.Reading.{reading}
 use Rattle.hoa_text.specs.Tokens.{tokens}
 use Rattle.hoa_read.specs.Told.{fault as hoa-said}
-use Rattle.variables.specs.Sizes.{Dimensioned}
-use Rattle.clauses.specs.Step.{last-position}
-use Rattle.solution.specs.declared.Reader.{Reader}
-use Rattle.solution.specs.declared.Reply.{Reply}
-use Rattle.solution.specs.declared.scan.Verdict.{Verdict}
-use Rattle.solution.specs.declared.scan.Verdict.the-variants.{Unstated, Satisfiable, Unsatisfiable, Unknown}
-use Rattle.solution.specs.Calls.{InRange, returned as solution-said}
+use Rattle.clause_variables.specs.Sizes.{Dimensioned}
+use Rattle.clause_step.specs.Step.{last-position}
+use Rattle.solver_text.specs.declared.Reader.{Reader}
+use Rattle.solver_text.specs.declared.Reply.{Reply}
+use Rattle.solver_text.specs.declared.scan.Verdict.{Verdict}
+use Rattle.solver_text.specs.declared.scan.Verdict.the-variants.{Unstated, Satisfiable, Unsatisfiable, Unknown}
+use Rattle.solver_text.specs.Calls.{InRange, returned as solution-said}
 use Rattle.decode.specs.declared.Answer.the-variants as decoding
 use Rattle.decode.specs.declared.Decoded.{Decoded}
 use Rattle.decode.specs.Answers.{whole, said, found, without, returned as decoder-said}

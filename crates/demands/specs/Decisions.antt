@@ -15,15 +15,15 @@ use Rattle.meaning.specs.Decision.{decide-agree}
 use Rattle.meaning.specs.Tests.{all}
 use Rattle.meaning.specs.TestLaws.{all-at, all-of}
 use Rattle.automaton.specs.declared.Automaton.{Automaton}
-use Rattle.automaton.specs.declared.refusal.Code.{Code}
+use Rattle.refusals.specs.declared.Code.{Code}
 use Rattle.automaton.specs.Tests.{fits}
 use Rattle.automaton.specs.Value.{Valid}
 use Rattle.automaton.specs.View.{view}
 use Rattle.automaton.specs.ViewLaws.{view-formed}
 use Rattle.automaton.specs.Meant.{fits-valid, valid-fits}
-use Rattle.variables.specs.Sizes.{Dimensioned}
-use Rattle.solution.specs.declared.Reader.{Reader}
-use Rattle.solution.specs.Calls.{InRange}
+use Rattle.clause_variables.specs.Sizes.{Dimensioned}
+use Rattle.solver_text.specs.declared.Reader.{Reader}
+use Rattle.solver_text.specs.Calls.{InRange}
 use Rattle.demands.specs.Judgement.{Condition, TurnedDown, Accepted, Judged}
 use Rattle.demands.specs.Conditions.{fault-code}
 

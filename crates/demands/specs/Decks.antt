@@ -4,13 +4,13 @@ use mathlib.Core.List.{_++_}
 use mathlib.Core.Option.{none}
 use Prim.Native.Nat.{ℕ, _≤_}
 use Rattle.automaton.specs.declared.Automaton.{Automaton}
-use Rattle.automaton.specs.declared.refusal.Refusal.the-variants.{SecondEdge, NoEdge}
-use Rattle.automaton.specs.Refused.{row}
+use Rattle.refusals.specs.declared.Refusal.the-variants.{SecondEdge, NoEdge}
+use Rattle.refusals.specs.Refused.{row}
 use Rattle.automaton.specs.Value.{Valid}
 use Rattle.automaton.specs.View.{view}
 use Rattle.encoding.specs.Variables.{base, base-number, base-variables}
 use Rattle.encoding.specs.Clauses.{base-file, Satisfies, destination}
-use Rattle.variables.specs.Sizes.{Dimensioned}
+use Rattle.clause_variables.specs.Sizes.{Dimensioned}
 use Rattle.decode.specs.Answers.{found}
 use Rattle.automaton.specs.Bytes.{bytes}
 use Rattle.hoa_text.specs.Labels.{deepest}

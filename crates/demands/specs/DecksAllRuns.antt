@@ -14,18 +14,18 @@ use Rattle.meaning.specs.Agreement.{Agree}
 use Rattle.meaning.specs.ClosedLoop.{CyclesAgree}
 use Rattle.meaning.specs.CycleLemma.{cycles→agree}
 use Rattle.automaton.specs.declared.Automaton.{Automaton}
-use Rattle.automaton.specs.declared.refusal.Refusal.the-variants.{Literal, NoStep}
-use Rattle.automaton.specs.Refused.{row}
+use Rattle.refusals.specs.declared.Refusal.the-variants.{Literal, NoStep}
+use Rattle.refusals.specs.Refused.{row}
 use Rattle.automaton.specs.Value.{Valid}
 use Rattle.automaton.specs.View.{view}
 use Rattle.automaton.specs.ViewLaws.{view-formed}
 use Rattle.encoding.specs.Variables.{base, base-number}
 use Rattle.encoding.specs.Clauses.{each, only, set-of, not-marks, totality, initial, successor, extension, closure, exactly-one, group₁, group₂, group₃, group₄, file, base-file, Assignment, Satisfies, destination}
-use Rattle.variables.specs.Sizes.{Dimensioned}
-use Rattle.solution.specs.declared.scan.Verdict.the-variants.{Satisfiable}
-use Rattle.solution.specs.SolverText.{Seen, gives, blank, digit, digit19, settled, judged, outcome}
-use Rattle.solution.specs.Assignment.{asserted}
-use Rattle.solution.specs.Table.{table}
+use Rattle.clause_variables.specs.Sizes.{Dimensioned}
+use Rattle.solver_text.specs.declared.scan.Verdict.the-variants.{Satisfiable}
+use Rattle.solver_text.specs.SolverText.{Seen, gives, blank, digit, digit19, settled, judged, outcome}
+use Rattle.solver_text.specs.Assignment.{asserted}
+use Rattle.solver_text.specs.Table.{table}
 use Rattle.decode.specs.Table.{decodedValue, AllStep, LowestWithout}
 use Rattle.decode.specs.Answers.{ByComparison, found}
 use Rattle.automaton.specs.Bytes.{bytes}

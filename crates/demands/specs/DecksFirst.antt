@@ -13,10 +13,10 @@ use Rattle.encoding.specs.Variables.{base-variables}
 use Rattle.encoding.specs.Clauses.{each, only, set-of, not-marks, totality, initial, successor, extension, closure, exactly-one, group₁, group₂, group₃, group₄, file, base-file}
 use Rattle.encoding.specs.Satisfaction.{no-literal, one-literal, premise}
 use Rattle.decimal.specs.Decimal.{decimal}
-use Rattle.variables.specs.Sizes.{Dimensioned, outside, dimensions}
-use Rattle.clauses.specs.declared.header.Totals.{Totals}
-use Rattle.clauses.specs.declared.header.Totals.the-variants.{Of, Refused}
-use Rattle.clauses.specs.Header.{Headed}
+use Rattle.clause_variables.specs.Sizes.{Dimensioned, outside, dimensions}
+use Rattle.clause_step.specs.declared.header.Totals.{Totals}
+use Rattle.clause_step.specs.declared.header.Totals.the-variants.{Of, Refused}
+use Rattle.clause_step.specs.Header.{Headed}
 use Rattle.clause_text.specs.Text.{linesText}
 use Rattle.clause_text.specs.LinesOut.{lines-out}
 use Rattle.automaton.specs.Bytes.{bytes}
@@ -27,7 +27,7 @@ use Rattle.hoa_text.specs.Body.{bodyRead}
 use Rattle.hoa_text.specs.Reading.{read}
 use Rattle.hoa_text.specs.Accepted.{accepted-valid}
 use Rattle.hoa_text.specs.Examples.{one-state}
-use Rattle.report.specs.Lines.{headerLine}
+use Rattle.console_report.specs.Lines.{headerLine}
 use Rattle.demands.specs.DecksWords.{Satisfiable, headerText, Prints}
 
 -- ---- what the calls write is the text of the file

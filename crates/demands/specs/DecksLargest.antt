@@ -7,10 +7,10 @@ use Rattle.automaton.specs.declared.Automaton.{Automaton}
 use Rattle.automaton.specs.Tests.{fits, passes}
 use Rattle.automaton.specs.Value.{Valid}
 use Rattle.automaton.specs.View.{view}
-use Rattle.automaton.specs.Powers.{letters-le}
+use Rattle.automaton.specs.Letters.{letters-le}
 use Rattle.automaton.specs.Meant.{fits-valid}
 use Rattle.encoding.specs.Variables.{base-variables}
-use Rattle.variables.specs.Sizes.{Dimensioned}
+use Rattle.clause_variables.specs.Sizes.{Dimensioned}
 use Rattle.clause_text.specs.LineLength.{variables-le}
 
 pub at-most : {a : Automaton} {n m : ℕ} → Valid a → Dimensioned n m → base-variables (view a) n m ≤ 4_199_424

@@ -5,19 +5,19 @@ use Prim.Native.Nat.{ℕ, _≤_}
 use lib.Dec.{eqb}
 use lib.ListN.{length, getD}
 use Rattle.automaton.specs.declared.Automaton.{Automaton}
-use Rattle.automaton.specs.declared.refusal.Refusal.{Refusal}
-use Rattle.automaton.specs.Refused.{codeOf}
+use Rattle.refusals.specs.declared.Refusal.{Refusal}
+use Rattle.refusals.specs.Refused.{codeOf}
 use Rattle.automaton.specs.Value.{Valid}
-use Rattle.variables.specs.Sizes.{Dimensioned}
-use Rattle.solution.specs.declared.Reader.{Reader}
-use Rattle.solution.specs.declared.Reply.{Reply}
-use Rattle.solution.specs.declared.scan.Verdict.the-variants.{Satisfiable}
-use Rattle.solution.specs.SolverText.{Seen, gives, refused, outcome}
-use Rattle.solution.specs.Assignment.{asserted, States}
-use Rattle.solution.specs.Calls.{InRange, Ends, last, kept}
-use Rattle.solution.specs.Answered.{called-text}
-use Rattle.solution.specs.Table.{table}
-use Rattle.solution.specs.Pieces.{reads-range, Tells, whole-text}
+use Rattle.clause_variables.specs.Sizes.{Dimensioned}
+use Rattle.solver_text.specs.declared.Reader.{Reader}
+use Rattle.solver_text.specs.declared.Reply.{Reply}
+use Rattle.solver_text.specs.declared.scan.Verdict.the-variants.{Satisfiable}
+use Rattle.solver_text.specs.SolverText.{Seen, gives, refused, outcome}
+use Rattle.solver_text.specs.Assignment.{asserted, States}
+use Rattle.solver_text.specs.Calls.{InRange, Ends, last, kept}
+use Rattle.solver_text.specs.Answered.{called-text}
+use Rattle.solver_text.specs.Table.{table}
+use Rattle.solver_text.specs.Pieces.{reads-range, Tells, whole-text}
 use Rattle.decode.specs.declared.Decoded.{Decoded}
 use Rattle.decode.specs.Answers.{whole, Decodes, Admitted, ByAssignment}
 use Rattle.demands.specs.DecksWords.{HasRead, SolverTextRefused}

@@ -5,32 +5,32 @@ use mathlib.Core.Option.{Option, some}
 use Prim.Native.Nat.{ℕ, _≤_}
 use lib.ListN.{length}
 use Rattle.automaton.specs.declared.Automaton.{Automaton}
-use Rattle.automaton.specs.declared.refusal.Code.{Code}
-use Rattle.automaton.specs.declared.refusal.Refusal.{Refusal}
-use Rattle.automaton.specs.Refused.{codeOf}
+use Rattle.refusals.specs.declared.Code.{Code}
+use Rattle.refusals.specs.declared.Refusal.{Refusal}
+use Rattle.refusals.specs.Refused.{codeOf}
 use Rattle.automaton.specs.View.{view}
 use Rattle.encoding.specs.Variables.{base-variables}
 use Rattle.encoding.specs.Clauses.{base-file, Assignment, Satisfies}
 use Rattle.hoa_text.specs.Grammar.{gives, refuses}
 use Rattle.hoa_text.specs.Reading.{read}
-use Rattle.clauses.specs.declared.Answer.the-variants.{Ended}
-use Rattle.clauses.specs.declared.header.Totals.{Totals}
-use Rattle.clauses.specs.declared.header.Totals.the-variants.{Of, Refused}
-use Rattle.clauses.specs.Step.{fresh-position}
-use Rattle.clauses.specs.Header.{Headed}
+use Rattle.clause_step.specs.declared.Answer.the-variants.{Ended}
+use Rattle.clause_step.specs.declared.header.Totals.{Totals}
+use Rattle.clause_step.specs.declared.header.Totals.the-variants.{Of, Refused}
+use Rattle.clause_step.specs.Step.{fresh-position}
+use Rattle.clause_step.specs.Header.{Headed}
 use Rattle.clause_text.specs.Text.{linesText}
 use Rattle.clause_text.specs.Batches.{TextCall, TextCalls, all-bytes}
-use Rattle.solution.specs.declared.Reader.{Reader}
-use Rattle.solution.specs.declared.Reply.{Reply}
-use Rattle.solution.specs.declared.Answer.the-variants as reader
-use Rattle.solution.specs.SolverText.{refused, outcome}
-use Rattle.solution.specs.Assignment.{States}
-use Rattle.solution.specs.Machine.{fresh}
-use Rattle.solution.specs.Calls.{Reads, Ends, joined, last, kept}
+use Rattle.solver_text.specs.declared.Reader.{Reader}
+use Rattle.solver_text.specs.declared.Reply.{Reply}
+use Rattle.solver_text.specs.declared.Answer.the-variants as reader
+use Rattle.solver_text.specs.SolverText.{refused, outcome}
+use Rattle.solver_text.specs.Assignment.{States}
+use Rattle.solver_text.specs.Machine.{fresh}
+use Rattle.solver_text.specs.Calls.{Reads, Ends, joined, last, kept}
 use Rattle.decode.specs.declared.Decoded.{Decoded}
 use Rattle.decode.specs.declared.Answer.the-variants as decode
 use Rattle.decode.specs.Answers.{Decodes, Untouched, without}
-use Rattle.report.specs.Lines.{headerLine}
+use Rattle.console_report.specs.Lines.{headerLine}
 
 -- ---- HOA text
 

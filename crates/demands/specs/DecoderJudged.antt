@@ -8,20 +8,20 @@ use native.Mathlib.Decide.{decLe}
 use native.Mathlib.Omega.{arith}
 use lib.ListN.{length}
 use Rattle.automaton.specs.declared.Automaton.{Automaton}
-use Rattle.automaton.specs.declared.refusal.Code.{Code}
-use Rattle.automaton.specs.declared.refusal.Refusal.{Refusal}
-use Rattle.automaton.specs.declared.refusal.Refusal.the-variants.{Outside}
-use Rattle.automaton.specs.Refused.{row, codeOf}
+use Rattle.refusals.specs.declared.Code.{Code}
+use Rattle.refusals.specs.declared.Refusal.{Refusal}
+use Rattle.refusals.specs.declared.Refusal.the-variants.{Outside}
+use Rattle.refusals.specs.Refused.{row, codeOf}
 use Rattle.automaton.specs.Value.{Valid}
 use Rattle.encoding.specs.Clauses.{Assignment}
-use Rattle.variables.specs.Sizes.{Dimensioned}
-use Rattle.solution.specs.declared.Reader.{Reader}
-use Rattle.solution.specs.declared.Answer as solution
-use Rattle.solution.specs.declared.Answer.the-variants as reading
-use Rattle.solution.specs.declared.scan.Verdict.{Verdict}
-use Rattle.solution.specs.declared.scan.Verdict.the-variants.{Unstated, Satisfiable, Unsatisfiable, Unknown}
-use Rattle.solution.specs.Machine.{end}
-use Rattle.solution.specs.Calls.{InRange, last, kept, returned as solution-said}
+use Rattle.clause_variables.specs.Sizes.{Dimensioned}
+use Rattle.solver_text.specs.declared.Reader.{Reader}
+use Rattle.solver_text.specs.declared.Answer as solution
+use Rattle.solver_text.specs.declared.Answer.the-variants as reading
+use Rattle.solver_text.specs.declared.scan.Verdict.{Verdict}
+use Rattle.solver_text.specs.declared.scan.Verdict.the-variants.{Unstated, Satisfiable, Unsatisfiable, Unknown}
+use Rattle.solver_text.specs.Machine.{end}
+use Rattle.solver_text.specs.Calls.{InRange, last, kept, returned as solution-said}
 use Rattle.decode.specs.declared.Answer.the-variants.{Refused}
 use Rattle.decode.specs.declared.Decoded.{Decoded}
 use Rattle.decode.specs.Answers.{whole, without, Untouched, Admitted, ByVerdict, Decodes, returned as decoder-said}

@@ -11,7 +11,7 @@ use Prim.Native.Nat.{ℕ, _≤_}
 use lib.IntN.{ℤ}
 use lib.ListN.{length}
 use Rattle.automaton.specs.declared.Automaton.{Automaton}
-use Rattle.automaton.specs.declared.refusal.Code.{Code}
+use Rattle.refusals.specs.declared.Code.{Code}
 use Rattle.automaton.specs.Value.{Valid}
 use Rattle.compare.specs.declared.Comparison.{Comparison}
 use Rattle.compare.specs.Compared.{Compared}
@@ -23,19 +23,19 @@ use Rattle.hoa_read.specs.declared.Answer.the-variants.{Read}
 use Rattle.hoa_read.specs.Told as hoa
 use Rattle.hoa_write.specs.declared.Written.{Written}
 use Rattle.hoa_write.specs.Answer.{Answered, returned as writer-said}
-use Rattle.variables.specs.Sizes.{Dimensioned}
-use Rattle.clauses.specs.declared.Handed.{Handed}
-use Rattle.clauses.specs.declared.header.Totals.{Totals}
-use Rattle.clauses.specs.Header.{Headed, returned as header-said}
-use Rattle.clauses.specs.Step.{Stepped, returned as step-said}
+use Rattle.clause_variables.specs.Sizes.{Dimensioned}
+use Rattle.clause_step.specs.declared.Handed.{Handed}
+use Rattle.clause_step.specs.declared.header.Totals.{Totals}
+use Rattle.clause_step.specs.Header.{Headed, returned as header-said}
+use Rattle.clause_step.specs.Step.{Stepped, returned as step-said}
 use Rattle.clause_text.specs.Answers.{LineStepped, BatchStepped}
-use Rattle.solution.specs.declared.Reader.{Reader}
-use Rattle.solution.specs.declared.Reply.{Reply}
-use Rattle.solution.specs.SolverText.{fault, outcome}
-use Rattle.solution.specs.Machine.{told, run, end, fresh}
-use Rattle.solution.specs.Calls.{Called, Reads, Ends, InRange, RefusedExactly, joined, last, kept, returned as solution-said}
-use Rattle.solution.specs.Staying.{refused-run, refused-end}
-use Rattle.solution.specs.MidText.{piece-refused-exactly}
+use Rattle.solver_text.specs.declared.Reader.{Reader}
+use Rattle.solver_text.specs.declared.Reply.{Reply}
+use Rattle.solver_text.specs.SolverText.{fault, outcome}
+use Rattle.solver_text.specs.Machine.{told, run, end, fresh}
+use Rattle.solver_text.specs.Calls.{Called, Reads, Ends, InRange, RefusedExactly, joined, last, kept, returned as solution-said}
+use Rattle.solver_text.specs.Staying.{refused-run, refused-end}
+use Rattle.solver_text.specs.MidText.{piece-refused-exactly}
 use Rattle.decode.specs.declared.Decoded.{Decoded}
 use Rattle.decode.specs.Answers.{Decodes, OfText}
 use Rattle.decode.specs.Texts.{text-answer}
@@ -88,9 +88,9 @@ pub record Demand1 : Type 0 where
   -- compare::compare
   pub compare : (a b : Automaton) (prefix prefix-after loop loop-after : List ℕ) (answer : Comparison) → Compared a b prefix prefix-after loop loop-after answer
       → JudgesComparison a b prefix prefix-after loop loop-after answer
-  -- clauses::header::header; nothing is lent or carried
+  -- clause_step::header::header; nothing is lent or carried
   pub header : (a : Automaton) (n m : ℕ) (answer : Totals) → Headed a n m answer → Judged (to-count a n m) (header-said answer) (Unit {0})
-  -- clauses::step
+  -- clause_step::step
   pub step : (a : Automaton) (n m x : ℕ) (d e : List ℤ) (r : Handed) → Stepped a n m x d e r
       → Judged (to-hand-out 8 (length d) a n m x) (step-said (r .answer)) ((r .position ≡ x) × (e ≡ d))
   -- clause_text::line

@@ -11,29 +11,29 @@ use Prim.Native.Nat.{ℕ, _+_, _*_, _^_, _≤_, _<_}
 use native.Mathlib.Omega.{arith}
 use lib.ListN.{length}
 use Rattle.automaton.specs.declared.Automaton.{Automaton}
-use Rattle.automaton.specs.declared.refusal.Refusal.the-variants.{Short}
-use Rattle.automaton.specs.Refused.{row}
+use Rattle.refusals.specs.declared.Refusal.the-variants.{Short}
+use Rattle.refusals.specs.Refused.{row}
 use Rattle.automaton.specs.Value.{Valid, letters}
 use Rattle.automaton.specs.View.{view}
 use Rattle.automaton.specs.ViewLaws.{view-formed}
 use Rattle.encoding.specs.Variables.{base, base-number}
 use Rattle.encoding.specs.Clauses.{Assignment, Satisfies, group₄}
 use Rattle.encoding.specs.Base.{base-length, base-encodes}
-use Rattle.variables.specs.Sizes as sizes
-use Rattle.variables.specs.Sizes.{Dimensioned}
-use Rattle.clauses.specs.declared.header.Totals.{Totals}
-use Rattle.clauses.specs.declared.header.Totals.the-variants.{Of, Refused as NoTotals}
-use Rattle.clauses.specs.Step.{fresh-position}
-use Rattle.clauses.specs.Header.{Headed}
-use Rattle.clauses.specs.Calls.{Call, Calls, HandsOut}
-use Rattle.clauses.specs.HandsOut.{hands-out}
+use Rattle.clause_variables.specs.Sizes as sizes
+use Rattle.clause_variables.specs.Sizes.{Dimensioned}
+use Rattle.clause_step.specs.declared.header.Totals.{Totals}
+use Rattle.clause_step.specs.declared.header.Totals.the-variants.{Of, Refused as NoTotals}
+use Rattle.clause_step.specs.Step.{fresh-position}
+use Rattle.clause_step.specs.Header.{Headed}
+use Rattle.clause_step.specs.Calls.{Call, Calls, HandsOut}
+use Rattle.clause_step.specs.HandsOut.{hands-out}
 use Rattle.clause_text.specs.Batches.{TextCall, TextCalls, LinesOut}
 use Rattle.clause_text.specs.LinesOut.{lines-out}
-use Rattle.solution.specs.declared.Reader.{Reader}
-use Rattle.solution.specs.declared.Reply.{Reply}
-use Rattle.solution.specs.Assignment.{States}
-use Rattle.solution.specs.Machine.{fresh}
-use Rattle.solution.specs.Calls.{Reads, Ends, joined, last, kept}
+use Rattle.solver_text.specs.declared.Reader.{Reader}
+use Rattle.solver_text.specs.declared.Reply.{Reply}
+use Rattle.solver_text.specs.Assignment.{States}
+use Rattle.solver_text.specs.Machine.{fresh}
+use Rattle.solver_text.specs.Calls.{Reads, Ends, joined, last, kept}
 use Rattle.decode.specs.declared.Decoded.{Decoded}
 use Rattle.decode.specs.declared.Answer.the-variants.{Refused}
 use Rattle.decode.specs.Answers.{Untouched, Decodes, found, without}

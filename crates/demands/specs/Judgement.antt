@@ -4,8 +4,8 @@ use mathlib.Core.Logic.{_⊎_, _↔_}
 use mathlib.Core.List.{List, [], _∷_}
 use mathlib.Core.Option.{Option, none, some}
 use Prim.Native.Nat.{ℕ}
-use Rattle.automaton.specs.declared.refusal.Code.{Code}
-use Rattle.automaton.specs.Refused.{row}
+use Rattle.refusals.specs.declared.Code.{Code}
+use Rattle.refusals.specs.Refused.{row}
 
 -- what a call must meet, and the number and two values that are returned otherwise
 pub record Condition : Type 1 where

@@ -6,19 +6,19 @@ use mathlib.Core.List.{List, [], _∷_, _++_}
 use mathlib.Core.Option.{none, some, Option·some-inj}
 use Prim.Native.Nat.{ℕ}
 use Rattle.automaton.specs.declared.Automaton.{Automaton}
-use Rattle.automaton.specs.declared.refusal.Code.{Code}
-use Rattle.automaton.specs.declared.refusal.Refusal.the-variants.{Outside, Dimensions}
+use Rattle.refusals.specs.declared.Code.{Code}
+use Rattle.refusals.specs.declared.Refusal.the-variants.{Outside, Dimensions}
 use Rattle.automaton.specs.Value.{Valid}
-use Rattle.variables.specs.Sizes.{Dimensioned}
-use Rattle.solution.specs.declared.Reader.{Reader}
-use Rattle.solution.specs.declared.Reply.{Reply}
-use Rattle.solution.specs.declared.scan.Place.{Place}
-use Rattle.solution.specs.SolverText.{Outcome, gives, refused, fault, outcome}
-use Rattle.solution.specs.Machine.{told, answerAt, refusedAt, fresh}
-use Rattle.solution.specs.Calls.{Called, Reads, Ends, InRange, joined, last, kept, refusal, returned as solution-said}
-use Rattle.solution.specs.Cases.{by}
-use Rattle.solution.specs.Staying.{accepted-place, at-both}
-use Rattle.solution.specs.Pieces.{whole-text, Tells}
+use Rattle.clause_variables.specs.Sizes.{Dimensioned}
+use Rattle.solver_text.specs.declared.Reader.{Reader}
+use Rattle.solver_text.specs.declared.Reply.{Reply}
+use Rattle.solver_text.specs.declared.scan.Place.{Place}
+use Rattle.solver_text.specs.SolverText.{Outcome, gives, refused, fault, outcome}
+use Rattle.solver_text.specs.Machine.{told, answerAt, refusedAt, fresh}
+use Rattle.solver_text.specs.Calls.{Called, Reads, Ends, InRange, joined, last, kept, refusal, returned as solution-said}
+use Rattle.solver_text.specs.Cases.{by}
+use Rattle.solver_text.specs.Staying.{accepted-place, at-both}
+use Rattle.solver_text.specs.Pieces.{whole-text, Tells}
 use Rattle.demands.specs.File.{last-variable, steps-and-marks}
 use Rattle.demands.specs.Judgement.{TurnedDown, Accepted}
 use Rattle.demands.specs.Conditions.{to-begin, no-fault, JudgesReading}

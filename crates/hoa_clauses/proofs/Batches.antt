@@ -8,16 +8,16 @@ use native.Mathlib.Omega.{arith}
 use denote.Enum.Declared.{tagOf, declared}
 use lib.ListN.{length, take, length-take}
 use Rattle.automaton.specs.declared.Automaton.{Automaton}
-use Rattle.automaton.specs.declared.refusal.Refusal.{Refusal}
+use Rattle.refusals.specs.declared.Refusal.{Refusal}
 use Rattle.automaton.specs.Value.{Valid}
-use Rattle.variables.specs.Sizes.{Dimensioned}
-use Rattle.clauses.specs.declared.Answer.{Answer}
-use Rattle.clauses.specs.declared.Answer.the-variants.{Written, Ended, Refused}
-use Rattle.clauses.specs.declared.Handed.{Handed}
-use Rattle.clauses.specs.Step.{last-position}
-use Rattle.clauses.specs.Range.{positions-le}
-use Rattle.clauses.specs.Refusals.{turned-down-short}
-use Rattle.clauses.proofs.Answer.{enum}
+use Rattle.clause_variables.specs.Sizes.{Dimensioned}
+use Rattle.clause_step.specs.declared.Answer.{Answer}
+use Rattle.clause_step.specs.declared.Answer.the-variants.{Written, Ended, Refused}
+use Rattle.clause_step.specs.declared.Handed.{Handed}
+use Rattle.clause_step.specs.Step.{last-position}
+use Rattle.clause_step.specs.Range.{positions-le}
+use Rattle.clause_step.specs.Refusals.{turned-down-short}
+use Rattle.clause_step.proofs.Answer.{enum}
 use Rattle.clause_text.specs.Answers.{BatchAnswers, BatchStepped}
 use Rattle.clause_text.specs.Batches.{TextCall, bytes}
 use Rattle.hoa_clauses.specs.Left.{fewer-left}

@@ -7,16 +7,16 @@ use Prim.Native.Nat.{ℕ, _+_}
 use native.Mathlib.Omega.{arith}
 use lib.ListN.{length, length-append}
 use Rattle.automaton.specs.declared.Automaton.{Automaton}
-use Rattle.automaton.specs.declared.refusal.Code.{Code}
-use Rattle.automaton.specs.declared.refusal.Refusal.{Refusal}
-use Rattle.automaton.specs.Refused.{codeOf}
+use Rattle.refusals.specs.declared.Code.{Code}
+use Rattle.refusals.specs.declared.Refusal.{Refusal}
+use Rattle.refusals.specs.Refused.{codeOf}
 use Rattle.automaton.specs.Value.{Valid}
-use Rattle.variables.specs.Sizes.{Dimensioned, Refuses, outside, dimensions}
-use Rattle.clauses.specs.declared.header.Totals.{Totals}
-use Rattle.clauses.specs.declared.header.Totals.the-variants.{Of, Refused}
-use Rattle.clauses.specs.Header.{Headed}
+use Rattle.clause_variables.specs.Sizes.{Dimensioned, Refuses, outside, dimensions}
+use Rattle.clause_step.specs.declared.header.Totals.{Totals}
+use Rattle.clause_step.specs.declared.header.Totals.the-variants.{Of, Refused}
+use Rattle.clause_step.specs.Header.{Headed}
 use Rattle.clause_text.specs.Batches.{all-bytes}
-use Rattle.report.specs.Lines.{headerLine, refusedLine}
+use Rattle.console_report.specs.Lines.{headerLine, refusedLine}
 use Rattle.hoa_clauses.specs.declared.Printout.{Printout}
 use Rattle.hoa_clauses.specs.Prints.{HandsLines, HandsFile}
 

@@ -6,7 +6,7 @@ use Prim.Native.Nat.{ℕ, _+_, _≤_, _<_}
 use native.Mathlib.Omega.{arith}
 use lib.ListN.{length, length-append}
 use Rattle.automaton.specs.declared.Automaton.{Automaton}
-use Rattle.clauses.specs.Step.{fresh-position, last-position}
+use Rattle.clause_step.specs.Step.{fresh-position, last-position}
 use Rattle.clause_text.specs.Batches.{TextCall, TextCalls, TextStepped, bytes, all-bytes}
 use Rattle.hoa_clauses.specs.declared.Next.{Next}
 use Rattle.hoa_clauses.specs.Left.{left}

@@ -12,12 +12,12 @@ use Rattle.encoding.specs.Variables.{base, base-number}
 use Rattle.encoding.specs.Clauses.{each}
 use Rattle.encoding.specs.Positions.{positions, at-position}
 use Rattle.encoding.specs.ByPosition.{at-most-one}
-use Rattle.variables.specs.Sizes.{Dimensioned}
+use Rattle.clause_variables.specs.Sizes.{Dimensioned}
 use Rattle.clause_list.specs.Next.{clauses-from}
-use Rattle.clauses.specs.Step.{last-position}
-use Rattle.clauses.specs.Range.{positions-le}
-use Rattle.clauses.specs.declared.Answer.the-variants.{Written}
-use Rattle.clauses.specs.declared.Handed.{Handed}
+use Rattle.clause_step.specs.Step.{last-position}
+use Rattle.clause_step.specs.Range.{positions-le}
+use Rattle.clause_step.specs.declared.Answer.the-variants.{Written}
+use Rattle.clause_step.specs.declared.Handed.{Handed}
 use Rattle.clause_text.specs.Text.{linesText}
 use Rattle.clause_text.specs.Answers.{BatchAnswers, BatchStepped}
 

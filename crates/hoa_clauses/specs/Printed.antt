@@ -6,9 +6,9 @@ use Prim.Native.Nat.{ℕ}
 use lib.ListN.{length}
 use Rattle.automaton.specs.declared.Automaton.{Automaton}
 use Rattle.automaton.specs.Value.{Valid}
-use Rattle.variables.specs.Sizes.{Dimensioned}
-use Rattle.clauses.specs.declared.Answer.{Answer}
-use Rattle.clauses.specs.declared.Answer.the-variants.{Written, Ended, Refused}
+use Rattle.clause_variables.specs.Sizes.{Dimensioned}
+use Rattle.clause_step.specs.declared.Answer.{Answer}
+use Rattle.clause_step.specs.declared.Answer.the-variants.{Written, Ended, Refused}
 use Rattle.clause_text.specs.Batches.{TextCall, all-bytes, LinesOut}
 use Rattle.clause_text.specs.LinesOut.{lines-out}
 use Rattle.hoa_clauses.specs.declared.Printout.{Printout}

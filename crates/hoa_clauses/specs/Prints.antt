@@ -7,19 +7,19 @@ use mathlib.Core.Option.{some}
 use Prim.Native.Nat.{ℕ}
 use lib.ListN.{length}
 use Rattle.automaton.specs.declared.Automaton.{Automaton}
-use Rattle.automaton.specs.declared.refusal.Refusal.{Refusal}
-use Rattle.automaton.specs.Refused.{codeOf}
+use Rattle.refusals.specs.declared.Refusal.{Refusal}
+use Rattle.refusals.specs.Refused.{codeOf}
 use Rattle.automaton.specs.Value.{Valid}
 use Rattle.automaton.specs.View.{view}
 use Rattle.encoding.specs.Variables.{base-variables}
 use Rattle.encoding.specs.Clauses.{base-file}
-use Rattle.variables.specs.Sizes.{Dimensioned, Refuses}
-use Rattle.clauses.specs.declared.Answer.{Answer}
-use Rattle.clauses.specs.declared.Answer.the-variants.{Written, Ended, Refused}
-use Rattle.clauses.specs.Step.{fresh-position}
+use Rattle.clause_variables.specs.Sizes.{Dimensioned, Refuses}
+use Rattle.clause_step.specs.declared.Answer.{Answer}
+use Rattle.clause_step.specs.declared.Answer.the-variants.{Written, Ended, Refused}
+use Rattle.clause_step.specs.Step.{fresh-position}
 use Rattle.clause_text.specs.Text.{linesText}
 use Rattle.clause_text.specs.Batches.{TextCall, TextCalls, all-bytes}
-use Rattle.report.specs.Lines.{headerLine, refusedLine}
+use Rattle.console_report.specs.Lines.{headerLine, refusedLine}
 use Rattle.hoa_clauses.specs.declared.Printout.{Printout}
 
 -- "The header is `p cnf V C`"

@@ -1,25 +1,25 @@
 // Prints the clause file for the reference on standard input and the candidate's numbers of states and sets.
 use automaton::Automaton;
-use automaton::refusal::Refusal;
+use clause_step::Answer;
+use clause_step::fresh;
+use clause_step::header::Totals;
+use clause_step::header::header;
 use clause_text::lines;
-use clauses::Answer;
-use clauses::fresh;
-use clauses::header::Totals;
-use clauses::header::header;
 use console::input;
 use console::input::TEXT;
 use console::output;
-use numerals::Number;
-use report::lines::LINE;
-use text_places::Place;
+use console_numerals::Number;
+use console_places::Place;
+use console_report::lines::LINE;
+use refusals::Refusal;
 ghost use mathlib.Core.Path.{_≡_};
 ghost use mathlib.Core.Bool.{false};
 ghost use mathlib.Core.List.{[]};
 ghost use Prim.Native.Nat.{_*_, _≤_};
 ghost use lib.ListN.{length as count};
 ghost use Rattle.automaton.specs.Value.{Valid};
-ghost use Rattle.variables.specs.Sizes.{Dimensioned};
-ghost use Rattle.report.specs.Lines.{headerLine, refusedLine};
+ghost use Rattle.clause_variables.specs.Sizes.{Dimensioned};
+ghost use Rattle.console_report.specs.Lines.{headerLine, refusedLine};
 ghost use Rattle.hoa_clauses.specs.Prints.{HandsLines, HandsFile};
 ghost use Rattle.hoa_clauses.specs.Batch.{HandsBatch};
 
@@ -98,7 +98,7 @@ fn print_header(variables: u64, clauses: u64) -> usize
     ensures most { λ r. ⌜ r ≤ 80 ⌝ }
 {
     let mut line = [0u8; LINE];
-    let length = report::lines::header(variables, clauses, &mut line);
+    let length = console_report::lines::header(variables, clauses, &mut line);
     let printed = output::print_line(&line, length);
     printed.length
 }

@@ -1,15 +1,15 @@
 // Says whether the automata of two files agree, and where they do not, prints a word that shows it.
 use automaton::Automaton;
-use automaton::refusal::Refusal;
 use compare::Comparison;
 use compare::compare;
 use console::input;
 use console::input::TEXT;
 use console::output;
-use report::lines;
-use report::lines::LINE;
-use text_places::Place;
-use text_places::part::first;
+use console_places::Place;
+use console_places::part::first;
+use console_report::lines;
+use console_report::lines::LINE;
+use refusals::Refusal;
 
 fn main() {
     if os::arg_count() != 3 {

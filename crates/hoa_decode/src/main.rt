@@ -1,14 +1,14 @@
 // Prints the automaton that the solver's output on standard input describes, compared with the reference.
 use automaton::Automaton;
-use automaton::refusal::Refusal;
 use compare::Comparison;
 use console::input;
 use console::input::TEXT;
 use console::output;
+use console_numerals::Number;
+use console_places::Place;
 use decode::Answer;
 use libc::STDIN_FILENO;
-use numerals::Number;
-use text_places::Place;
+use refusals::Refusal;
 
 fn main() {
     if os::arg_count() != 4 {
@@ -42,7 +42,7 @@ fn usage() {
 fn print_decoded(reference: Automaton, n: usize, m: usize) {
     let mut prefix = [0u8; Comparison::PREFIX];
     let mut cycle = [0u8; Comparison::LOOP];
-    let told = answers::read(
+    let told = console_answers::read(
         STDIN_FILENO,
         b"standard input",
         reference,

@@ -12,19 +12,19 @@ use lib.ListN.{length, getD, drop, drop-of-length-le}
 use lib.Seq.{drop-cons}
 use denote.Enum.Declared.{tagOf, declared}
 use types.Run.{OneOf, miss}
-use Rattle.automaton.specs.declared.refusal.Refusal.{Refusal}
-use Rattle.automaton.specs.declared.refusal.Refusal.the-variants.{Form, Size}
-use Rattle.automaton.specs.declared.refusal.Refusal.the-variants as Because
+use Rattle.refusals.specs.declared.Refusal.{Refusal}
+use Rattle.refusals.specs.declared.Refusal.the-variants.{Form, Size}
+use Rattle.refusals.specs.declared.Refusal.the-variants as Because
 use Rattle.hoa_text.specs.Basics.{isSome}
 use Rattle.hoa_text.specs.Tokens as Hoa
 use Rattle.hoa_text.specs.Grammar.{itemOf, isWord, isSign, next, rest, at, refuses, then}
 use Rattle.hoa_text.specs.Header.{inf, infs, condition, departs, accepting, setsRead, setsGiven, setsItem}
 use Rattle.hoa_text.specs.Tokens.{left}
-use Rattle.scan.specs.declared.Token.{Token}
-use Rattle.scan.specs.declared.Token.the-variants.{Word, Item, Number, Quoted, Sign, Body, End, Abort, Unread, Over, Broken}
-use Rattle.scan.specs.Answers.{stream, Reads}
-use Rattle.scan.proofs.Token.{enum}
-use Rattle.scan.proofs.Due.{number-missing, number-due}
+use Rattle.hoa_tokens.specs.declared.Token.{Token}
+use Rattle.hoa_tokens.specs.declared.Token.the-variants.{Word, Item, Number, Quoted, Sign, Body, End, Abort, Unread, Over, Broken}
+use Rattle.hoa_tokens.specs.Answers.{stream, Reads}
+use Rattle.hoa_tokens.proofs.Token.{enum}
+use Rattle.hoa_tokens.proofs.Due.{number-missing, number-due}
 use Rattle.hoa_header.specs.declared.acceptance.SetsRead.{SetsRead}
 use Rattle.hoa_header.specs.declared.acceptance.SetsRead.the-variants.{Sets, Refused}
 use Rattle.hoa_header.specs.Expected.{Past}

@@ -12,18 +12,18 @@ use lib.ListN.{length}
 use denote.Enum.Declared.{tagOf, declared}
 use types.Run.{OneOf}
 use Rattle.meaning.specs.TestLaws.{and-true}
-use Rattle.automaton.specs.declared.refusal.Refusal.{Refusal}
-use Rattle.automaton.specs.declared.refusal.Refusal.the-variants.{Form, Size}
-use Rattle.automaton.specs.declared.refusal.Refusal.the-variants as Because
+use Rattle.refusals.specs.declared.Refusal.{Refusal}
+use Rattle.refusals.specs.declared.Refusal.the-variants.{Form, Size}
+use Rattle.refusals.specs.declared.Refusal.the-variants as Because
 use Rattle.hoa_text.specs.Basics.{isSome}
 use Rattle.hoa_text.specs.Tokens.{Stream, stands, over, broken, left}
 use Rattle.hoa_text.specs.Grammar.{next, rest, at, Result, refuses, Parsed, then}
 use Rattle.hoa_text.specs.Header.{Items, once, statesGiven, statesItem, startGiven, startItem, namesItem, setsItem, plain, skipped}
-use Rattle.scan.specs.declared.Token.{Token}
-use Rattle.scan.specs.declared.Token.the-variants.{Number}
-use Rattle.scan.specs.Answers.{Reads}
-use Rattle.scan.proofs.Token.{enum}
-use Rattle.scan.proofs.Due.{number-missing, number-due}
+use Rattle.hoa_tokens.specs.declared.Token.{Token}
+use Rattle.hoa_tokens.specs.declared.Token.the-variants.{Number}
+use Rattle.hoa_tokens.specs.Answers.{Reads}
+use Rattle.hoa_tokens.proofs.Token.{enum}
+use Rattle.hoa_tokens.proofs.Due.{number-missing, number-due}
 use Rattle.hoa_names.specs.declared.Names.{Names}
 use Rattle.hoa_names.specs.declared.NamesRead.{NamesRead}
 use Rattle.hoa_names.specs.declared.Step.{Step}

@@ -14,9 +14,9 @@ use denote.Enum.Declared.{tagOf, declared}
 use types.Run.{OneOf, miss}
 use Rattle.meaning.specs.Counting.{each}
 use Rattle.automaton.specs.declared.Automaton.{Automaton}
-use Rattle.automaton.specs.declared.refusal.Refusal.{Refusal}
-use Rattle.automaton.specs.declared.refusal.Refusal.the-variants.{Form, Undeclared}
-use Rattle.automaton.specs.declared.refusal.Refusal.the-variants as Because
+use Rattle.refusals.specs.declared.Refusal.{Refusal}
+use Rattle.refusals.specs.declared.Refusal.the-variants.{Form, Undeclared}
+use Rattle.refusals.specs.declared.Refusal.the-variants as Because
 use Rattle.automaton.specs.Value.{empty}
 use Rattle.automaton.specs.Bytes.{bytes}
 use Rattle.hoa_text.specs.Basics.{option, isSome, begins}
@@ -25,10 +25,10 @@ use Rattle.hoa_text.specs.Grammar.{isItem, isWord, at, gives, refuses, then, re
 use Rattle.hoa_text.specs.Header.{Items, Header, opening, opened, itemRead, noItems, header}
 use Rattle.hoa_text.specs.Repetition.{repeat-again, repeat-done, repeat-refuses}
 use Rattle.hoa_text.specs.HeaderProgress.{item-shrinks}
-use Rattle.scan.specs.declared.Token.{Token}
-use Rattle.scan.specs.declared.Token.the-variants.{Word, Item, Number, Quoted, Sign, Body, End, Abort, Unread, Over, Broken}
-use Rattle.scan.specs.Answers.{stream, Reads}
-use Rattle.scan.proofs.Token.{enum}
+use Rattle.hoa_tokens.specs.declared.Token.{Token}
+use Rattle.hoa_tokens.specs.declared.Token.the-variants.{Word, Item, Number, Quoted, Sign, Body, End, Abort, Unread, Over, Broken}
+use Rattle.hoa_tokens.specs.Answers.{stream, Reads}
+use Rattle.hoa_tokens.proofs.Token.{enum}
 use Rattle.hoa_names.specs.declared.Step.{Step}
 use Rattle.hoa_names.specs.declared.Step.the-variants as Step
 use Rattle.hoa_header.specs.declared.HeaderRead.{HeaderRead}

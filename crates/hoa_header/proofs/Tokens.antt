@@ -16,11 +16,11 @@ use Rattle.hoa_text.specs.Tokens.{word, item, number, quoted, Stream, stands, o
 use Rattle.hoa_text.specs.Tokens as Hoa
 use Rattle.hoa_text.specs.Grammar.{itemOf, wordOf, numberOf, isNumber, next, rest, peek}
 use Rattle.hoa_text.specs.Header.{plain}
-use Rattle.scan.specs.declared.Token.{Token}
-use Rattle.scan.specs.declared.Token.the-variants.{Word, Item, Number, Quoted, Sign, Body, End, Abort, Unread, Over, Broken}
-use Rattle.scan.specs.Answers.{stream, Reads, isSignOf, Behind}
-use Rattle.scan.proofs.Token.{enum}
-use Rattle.scan.proofs.Due.{number-missing}
+use Rattle.hoa_tokens.specs.declared.Token.{Token}
+use Rattle.hoa_tokens.specs.declared.Token.the-variants.{Word, Item, Number, Quoted, Sign, Body, End, Abort, Unread, Over, Broken}
+use Rattle.hoa_tokens.specs.Answers.{stream, Reads, isSignOf, Behind}
+use Rattle.hoa_tokens.proofs.Token.{enum}
+use Rattle.hoa_tokens.proofs.Due.{number-missing}
 use Rattle.hoa_header.specs.Expected.{Past, isItemOf, isWordOf}
 
 -- ---- which token stands next

@@ -6,7 +6,7 @@ use Prim.Native.Nat.{ℕ, _+_, _≤_, _<_}
 use native.Mathlib.Omega.{arith}
 use lib.ListN.{length, getD}
 use lib.Seq.{slice, slice-cons}
-use Rattle.automaton.specs.declared.refusal.Refusal.the-variants.{Form}
+use Rattle.refusals.specs.declared.Refusal.the-variants.{Form}
 use Rattle.automaton.specs.Bytes.{bytes}
 use Rattle.hoa_text.specs.Basics.{same}
 use Rattle.hoa_text.specs.Tokens.{item, Stream, stands, between, left}

@@ -1,8 +1,8 @@
 // Tokens that may stand next: the offset behind one, or the offset given where it does not stand first.
-use scan::Token;
-use scan::next_token;
-use words::names_item;
-use words::spells;
+use hoa_tokens::Token;
+use hoa_tokens::next_token;
+use hoa_words::names_item;
+use hoa_words::spells;
 ghost use Prim.Native.Nat.{_-_, _<_};
 ghost use lib.ListN.{length, take};
 ghost use Rattle.hoa_text.specs.Grammar.{isNumber};

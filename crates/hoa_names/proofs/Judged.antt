@@ -11,9 +11,9 @@ use lib.Dec.{ltb, leb}
 use lib.ListN.{length, getD, drop, drop-of-length-le}
 use lib.Seq.{drop-cons}
 use Rattle.meaning.specs.TestLaws.{and-true}
-use Rattle.automaton.specs.declared.refusal.Refusal.{Refusal}
-use Rattle.automaton.specs.declared.refusal.Refusal.the-variants.{Form, Size}
-use Rattle.automaton.specs.declared.refusal.Refusal.the-variants as Because
+use Rattle.refusals.specs.declared.Refusal.{Refusal}
+use Rattle.refusals.specs.declared.Refusal.the-variants.{Form, Size}
+use Rattle.refusals.specs.declared.Refusal.the-variants as Because
 use Rattle.automaton.specs.Value.{printable}
 use Rattle.hoa_text.specs.Grammar.{refuses, Parsed}
 use Rattle.hoa_text.specs.Header.{allBytes, among, nameGiven}

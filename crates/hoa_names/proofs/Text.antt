@@ -10,18 +10,18 @@ use lib.ListN.{length, getD, length-append, List·getD-eq-default}
 use lib.Seq.{slice}
 use denote.Enum.Declared.{tagOf, declared}
 use types.Run.{OneOf, miss}
-use Rattle.automaton.specs.declared.refusal.Refusal.{Refusal}
-use Rattle.automaton.specs.declared.refusal.Refusal.the-variants.{Form, Size}
+use Rattle.refusals.specs.declared.Refusal.{Refusal}
+use Rattle.refusals.specs.declared.Refusal.the-variants.{Form, Size}
 use Rattle.hoa_text.specs.Tokens.{blank, left}
 use Rattle.hoa_text.specs.Grammar.{at, refuses, then}
 use Rattle.hoa_text.specs.Header.{Items, nameGiven, naming, namesRead, namesGiven, namesItem}
 use Rattle.hoa_text.specs.RunOffsets.{digit-blank}
 use Rattle.hoa_text.specs.Names.{last-name}
-use Rattle.scan.specs.declared.Token.{Token}
-use Rattle.scan.specs.declared.Token.the-variants.{Word, Item, Number, Quoted, Sign, Body, End, Abort, Unread, Over, Broken}
-use Rattle.scan.specs.Answers.{stream, Reads}
-use Rattle.scan.proofs.Token.{enum}
-use Rattle.scan.proofs.Due.{number-missing, number-due}
+use Rattle.hoa_tokens.specs.declared.Token.{Token}
+use Rattle.hoa_tokens.specs.declared.Token.the-variants.{Word, Item, Number, Quoted, Sign, Body, End, Abort, Unread, Over, Broken}
+use Rattle.hoa_tokens.specs.Answers.{stream, Reads}
+use Rattle.hoa_tokens.proofs.Token.{enum}
+use Rattle.hoa_tokens.proofs.Due.{number-missing, number-due}
 use Rattle.hoa_names.specs.declared.Names.{Names}
 use Rattle.hoa_names.specs.declared.NamesRead.{NamesRead}
 use Rattle.hoa_names.specs.declared.Step.{Step}

@@ -2,11 +2,11 @@
 mod name;
 
 use automaton::Automaton;
-use automaton::refusal::Refusal;
+use hoa_tokens::Token;
+use hoa_tokens::next_token;
+use hoa_tokens::offset;
 use name::name;
-use scan::Token;
-use scan::next_token;
-use scan::offset;
+use refusals::Refusal;
 ghost use mathlib.Core.Path.{_≡_};
 ghost use mathlib.Core.Bool.{false};
 ghost use mathlib.Core.List.{[]};

@@ -10,19 +10,19 @@ use borrow.Author.Tests.{lt-ltb, le-ltb}
 use lib.Bits.{bitOr, or-lt}
 use lib.ListN.{length}
 use lib.Pow.{pow-lt}
-use Rattle.automaton.specs.declared.refusal.Refusal.{Refusal}
-use Rattle.automaton.specs.declared.refusal.Refusal.the-variants.{Form, Undeclared}
-use Rattle.automaton.specs.Powers.{power-is}
+use Rattle.refusals.specs.declared.Refusal.{Refusal}
+use Rattle.refusals.specs.declared.Refusal.the-variants.{Form, Undeclared}
+use Rattle.bits.specs.Powers.{power-is}
 use Rattle.hoa_text.specs.Tokens.{Stream, stands, over, broken, left}
 use Rattle.hoa_text.specs.Grammar.{numberOf, isSign, next, rest, at, gives, refuses, peek, due, then}
 use Rattle.hoa_text.specs.Labels.{Formula, label}
 use Rattle.hoa_text.specs.Header.{Header}
 use Rattle.hoa_text.specs.Body.{Table, marks, marked, destinationGiven, labelGiven, edge}
-use Rattle.scan.specs.declared.Token.the-variants.{Number}
-use Rattle.scan.specs.Answers.{Reads, Behind}
-use Rattle.scan.proofs.Due.{number-due}
-use Rattle.scan.specs.Behind.{absent, present, behind-it}
-use Rattle.labels.specs.Answers.{Read}
+use Rattle.hoa_tokens.specs.declared.Token.the-variants.{Number}
+use Rattle.hoa_tokens.specs.Answers.{Reads, Behind}
+use Rattle.hoa_tokens.proofs.Due.{number-due}
+use Rattle.hoa_tokens.specs.Behind.{absent, present, behind-it}
+use Rattle.hoa_labels.specs.Answers.{Read}
 use Rattle.hoa_read.specs.declared.edges.MarksRead.{MarksRead}
 use Rattle.hoa_read.specs.declared.edges.MarksRead.the-variants as Marks
 use Rattle.hoa_read.specs.declared.edges.EdgeRead.{EdgeRead}

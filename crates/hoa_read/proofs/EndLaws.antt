@@ -13,8 +13,8 @@ use types.Run.{OneOf, miss}
 use Rattle.meaning.specs.BitSet.{has}
 use Rattle.meaning.specs.BitSetLaws.{has-not}
 use Rattle.automaton.specs.declared.Automaton.{Automaton}
-use Rattle.automaton.specs.declared.refusal.Refusal.{Refusal}
-use Rattle.automaton.specs.declared.refusal.Refusal.the-variants.{Form, Body, NoEdge}
+use Rattle.refusals.specs.declared.Refusal.{Refusal}
+use Rattle.refusals.specs.declared.Refusal.the-variants.{Form, Body, NoEdge}
 use Rattle.hoa_text.specs.Basics.{option, isSome, first}
 use Rattle.hoa_text.specs.Grammar.{at, gives, refuses}
 use Rattle.hoa_text.specs.Header.{Header}
@@ -22,16 +22,16 @@ use Rattle.hoa_text.specs.Body.{Table, letters}
 use Rattle.hoa_text.specs.Reading.{made, noBody, noEdge, whole, ended}
 use Rattle.hoa_text.specs.Tokens.{left}
 use Rattle.hoa_text.specs.First.{none-first, first-some}
-use Rattle.scan.specs.declared.Token.{Token}
-use Rattle.scan.specs.declared.Token.the-variants.{Word, Item, Number, Quoted, Sign, Abort, Unread, Over, Broken}
-use Rattle.scan.specs.declared.Token.the-variants as Token
-use Rattle.scan.specs.Answers.{stream, Reads}
-use Rattle.scan.proofs.Token.{enum}
+use Rattle.hoa_tokens.specs.declared.Token.{Token}
+use Rattle.hoa_tokens.specs.declared.Token.the-variants.{Word, Item, Number, Quoted, Sign, Abort, Unread, Over, Broken}
+use Rattle.hoa_tokens.specs.declared.Token.the-variants as Token
+use Rattle.hoa_tokens.specs.Answers.{stream, Reads}
+use Rattle.hoa_tokens.proofs.Token.{enum}
 use Rattle.hoa_read.specs.declared.Reading.{Reading}
 use Rattle.hoa_read.specs.declared.missing.Gap.{Gap}
 use Rattle.hoa_read.specs.declared.missing.Gap.the-variants.{At, Nowhere}
 use Rattle.hoa_read.specs.declared.tables.Table as Code
-use Rattle.hoa_read.specs.Sets.{Lowest}
+use Rattle.bits.specs.Sets.{Lowest}
 use Rattle.hoa_read.specs.Opened.{Bounded, Opens}
 use Rattle.hoa_read.specs.Tables.{Holds}
 use Rattle.hoa_read.specs.Missing.{gapTold, GapAnswer, WholeAnswer, EndedAnswer}

@@ -16,9 +16,9 @@ use types.Run.{OneOf, miss}
 use Rattle.meaning.specs.BitSet.{has}
 use Rattle.meaning.specs.BitSetLaws.{has-and}
 use Rattle.automaton.specs.declared.Automaton.{Automaton}
-use Rattle.automaton.specs.declared.refusal.Refusal.{Refusal}
-use Rattle.automaton.specs.declared.refusal.Refusal.the-variants.{Form, Undeclared, Body, SecondEdge}
-use Rattle.automaton.specs.Powers.{power-is}
+use Rattle.refusals.specs.declared.Refusal.{Refusal}
+use Rattle.refusals.specs.declared.Refusal.the-variants.{Form, Undeclared, Body, SecondEdge}
+use Rattle.bits.specs.Powers.{power-is}
 use Rattle.automaton.specs.Bytes.{bytes}
 use Rattle.hoa_text.specs.Basics.{option, isSome, same}
 use Rattle.hoa_text.specs.Tokens.{Stream, left}
@@ -26,18 +26,18 @@ use Rattle.hoa_text.specs.Grammar.{numberOf, quotedOf, next, rest, at, gives, r
 use Rattle.hoa_text.specs.Labels.{Formula, holds}
 use Rattle.hoa_text.specs.Header.{Header}
 use Rattle.hoa_text.specs.Body.{Table, letters, unquoted, stateGiven, stateItem, marked, secondEdge, withEdge, marksGiven, edge, bodyRead}
-use Rattle.scan.specs.declared.Token.{Token}
-use Rattle.scan.specs.declared.Token.the-variants.{Word, Item, Number, Quoted, Sign, Abort, Unread, Over, Broken}
-use Rattle.scan.specs.declared.Token.the-variants as Token
-use Rattle.scan.specs.Answers.{stream, Reads}
-use Rattle.scan.proofs.Token.{enum}
-use Rattle.scan.proofs.Due.{number-due}
-use Rattle.labels.specs.Answers.{Satisfy}
+use Rattle.hoa_tokens.specs.declared.Token.{Token}
+use Rattle.hoa_tokens.specs.declared.Token.the-variants.{Word, Item, Number, Quoted, Sign, Abort, Unread, Over, Broken}
+use Rattle.hoa_tokens.specs.declared.Token.the-variants as Token
+use Rattle.hoa_tokens.specs.Answers.{stream, Reads}
+use Rattle.hoa_tokens.proofs.Token.{enum}
+use Rattle.hoa_tokens.proofs.Due.{number-due}
+use Rattle.hoa_labels.specs.Answers.{Satisfy}
 use Rattle.hoa_read.specs.declared.tables.Table as Code
 use Rattle.hoa_read.specs.declared.parts.Part.{Part}
 use Rattle.hoa_read.specs.declared.parts.Part.the-variants.{State, Edge, End, Refused}
 use Rattle.hoa_read.specs.declared.edges.EdgeRead.the-variants as Read
-use Rattle.hoa_read.specs.Sets.{Lowest}
+use Rattle.bits.specs.Sets.{Lowest}
 use Rattle.hoa_read.specs.Opened.{Bounded, Opens}
 use Rattle.hoa_read.specs.Tables.{Holds}
 use Rattle.hoa_read.specs.Marks.{Marked}

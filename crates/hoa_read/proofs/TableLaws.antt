@@ -18,14 +18,14 @@ use Rattle.meaning.specs.CountingLaws.{each-at}
 use Rattle.automaton.specs.declared.Automaton.{Automaton}
 use Rattle.automaton.specs.Value.{rows}
 use Rattle.automaton.specs.Rows.{rows-length}
-use Rattle.hoa_text.specs.SingleSets.{has-single}
+use Rattle.bits.specs.SingleSets.{has-single}
 use Rattle.hoa_text.specs.Basics.{option, isSome}
 use Rattle.hoa_text.specs.Labels.{Formula, holds}
 use Rattle.hoa_text.specs.Header.{Header}
 use Rattle.hoa_text.specs.Body.{Edge, letters, withEdge}
 use Rattle.hoa_text.specs.Body as Hoa
 use Rattle.hoa_text.specs.Reading.{made}
-use Rattle.labels.specs.Answers.{Satisfy}
+use Rattle.hoa_labels.specs.Answers.{Satisfy}
 use Rattle.hoa_read.specs.declared.tables.Table.{Table}
 use Rattle.hoa_read.specs.Opened.{Opens}
 use Rattle.hoa_read.specs.Tables.{Holds, HoldsNone, HoldsState, HoldsEdge, Filled}

@@ -8,7 +8,7 @@ use Rattle.hoa_text.specs.Labels.{Formula}
 use Rattle.hoa_text.specs.Header.{Header}
 use Rattle.hoa_text.specs.Body.{Table, marked, marksGiven, labelGiven, edge}
 use Rattle.hoa_text.specs.Tokens.{left}
-use Rattle.labels.specs.Answers.{Satisfy}
+use Rattle.hoa_labels.specs.Answers.{Satisfy}
 use Rattle.hoa_read.specs.declared.edges.EdgeRead.{EdgeRead}
 use Rattle.hoa_read.specs.declared.edges.EdgeRead.the-variants.{To, Refused}
 

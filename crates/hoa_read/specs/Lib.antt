@@ -1,6 +1,5 @@
 pub mod Told
 pub mod Opened
-pub mod Sets
 pub mod Tables
 pub mod Marks
 pub mod Edges

@@ -10,7 +10,7 @@ use Rattle.hoa_text.specs.Grammar.{Result, gives, refuses, then, Turn, again, d
 use Rattle.hoa_text.specs.Labels.{Formula}
 use Rattle.hoa_text.specs.Header.{Header}
 use Rattle.hoa_text.specs.Body.{Table, withState, unquoted, stateItem, marked, withEdge, marksGiven, edge, bodyRead}
-use Rattle.labels.specs.Answers.{Satisfy}
+use Rattle.hoa_labels.specs.Answers.{Satisfy}
 use Rattle.hoa_read.specs.Opened.{Opens}
 use Rattle.hoa_read.specs.Tables.{Holds}
 use Rattle.hoa_read.specs.declared.parts.Part.{Part}

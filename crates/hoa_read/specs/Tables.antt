@@ -14,7 +14,7 @@ use Rattle.hoa_text.specs.Labels.{Formula}
 use Rattle.hoa_text.specs.Header.{Header}
 use Rattle.hoa_text.specs.Body.{letters, noStates, withState, withEdge}
 use Rattle.hoa_text.specs.Body as Hoa
-use Rattle.labels.specs.Answers.{Satisfy}
+use Rattle.hoa_labels.specs.Answers.{Satisfy}
 use Rattle.hoa_read.specs.Opened.{Opens}
 use Rattle.hoa_read.specs.declared.tables.Table.{Table}
 

@@ -2,8 +2,8 @@
 use mathlib.Core.Path.{_≡_}
 use mathlib.Core.Option.{Option, none, some}
 use Rattle.automaton.specs.declared.Automaton.{Automaton}
-use Rattle.automaton.specs.declared.refusal.Code.{Code}
-use Rattle.automaton.specs.Refused.{codeOf}
+use Rattle.refusals.specs.declared.Code.{Code}
+use Rattle.refusals.specs.Refused.{codeOf}
 use Rattle.automaton.specs.Value.{empty}
 use Rattle.hoa_text.specs.Grammar.{Result, gives, refuses}
 use Rattle.hoa_read.specs.declared.Answer.{Answer}

@@ -1,12 +1,12 @@
 // Edges: label, destination, marks.
-use automaton::powers::power_of_two;
-use automaton::refusal::Refusal;
-use labels::LabelRead;
-use labels::label;
-use scan::Token;
-use scan::behind;
-use scan::next_token;
-use scan::offset;
+use bits::powers::power_of_two;
+use hoa_labels::LabelRead;
+use hoa_labels::label;
+use hoa_tokens::Token;
+use hoa_tokens::behind;
+use hoa_tokens::next_token;
+use hoa_tokens::offset;
+use refusals::Refusal;
 ghost use Prim.Native.Nat.{_≤_, _<_};
 ghost use lib.ListN.{length};
 ghost use Rattle.hoa_text.specs.Body.{marks, marked};

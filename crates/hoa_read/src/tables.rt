@@ -1,7 +1,7 @@
 // The body so far.
-use crate::sets::has;
-use crate::sets::single;
 use automaton::Automaton;
+use bits::sets::has;
+use bits::sets::single;
 ghost use mathlib.Core.Path.{_≡_};
 ghost use mathlib.Core.Bool.{cond};
 ghost use Prim.Native.Nat.{_≤_, _<_};

@@ -1,17 +1,17 @@
 // Replays solver answers to the search for fewer states, and prints the next question, or the best table once it is finished.
 use automaton::Automaton;
-use automaton::refusal::Refusal;
 use compare::Comparison;
 use console::input;
 use console::input::TEXT;
 use console::output;
+use console_places::Place;
+use console_places::part::first;
+use console_report::lines::LINE;
+use console_report::lines::ask;
 use decode::Decoded;
-use report::lines::LINE;
-use report::lines::ask;
+use refusals::Refusal;
 use search::Reply;
 use search::Search;
-use text_places::Place;
-use text_places::part::first;
 
 fn main() {
     if os::arg_count() < 2 {
@@ -81,7 +81,7 @@ fn take_text(search: Search, fd: i32, path: &[u8]) -> Replayed {
     let mut prefix = [0u8; Comparison::PREFIX];
     let mut cycle = [0u8; Comparison::LOOP];
     let reference = search.reference;
-    let told = answers::read(
+    let told = console_answers::read(
         fd,
         path,
         reference,

@@ -8,8 +8,8 @@ use lib.Bits.{bitOr}
 use lib.Dec.{ltb}
 use lib.ListN.{length}
 use Rattle.meaning.specs.TestLaws.{on-cond}
-use Rattle.automaton.specs.declared.refusal.Refusal.{Refusal}
-use Rattle.automaton.specs.declared.refusal.Refusal.the-variants.{Form, Undeclared}
+use Rattle.refusals.specs.declared.Refusal.{Refusal}
+use Rattle.refusals.specs.declared.Refusal.the-variants.{Form, Undeclared}
 use Rattle.hoa_text.specs.Basics.{option, isSome}
 use Rattle.hoa_text.specs.Tokens.{Stream, stands, over, broken}
 use Rattle.hoa_text.specs.Grammar.{numberOf, quotedOf, isItem, isSign, next, rest, at, gives, refuses, Parsed, then, due, onward, turn, size, repeat}

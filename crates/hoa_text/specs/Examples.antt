@@ -6,7 +6,7 @@ use Prim.Native.Nat.{ℕ, _<_}
 use borrow.Author.Tests.{lt-leb}
 use lib.ListN.{length, replicate}
 use Rattle.automaton.specs.declared.Automaton.{Automaton}
-use Rattle.automaton.specs.declared.refusal.Refusal.the-variants.{Form, Size, Item, Undeclared, Body, SecondEdge}
+use Rattle.refusals.specs.declared.Refusal.the-variants.{Form, Size, Item, Undeclared, Body, SecondEdge}
 use Rattle.automaton.specs.Bytes.{bytes}
 use Rattle.hoa_text.specs.Tokens.{tokens}
 use Rattle.hoa_text.specs.Grammar.{gives, refuses}

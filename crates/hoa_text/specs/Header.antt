@@ -6,7 +6,7 @@ use Prim.Native.Nat.{ℕ, zero, suc, _+_}
 use lib.Dec.{ltb, leb}
 use lib.ListN.{length}
 use Rattle.automaton.specs.Value.{printable}
-use Rattle.automaton.specs.declared.refusal.Refusal.the-variants.{Form, Size, Item, Undeclared}
+use Rattle.refusals.specs.declared.Refusal.the-variants.{Form, Size, Item, Undeclared}
 use Rattle.hoa_text.specs.Basics.{option, isSome, same}
 use Rattle.hoa_text.specs.Tokens.{Token, Stream, stands, over, broken, between}
 use Rattle.hoa_text.specs.Grammar.{wordOf, itemOf, numberOf, quotedOf, isWord, isItem, isSign, isNumber, next, rest, at, Result, gives, refuses, Parsed, then, due, expect, Turn, again, done, repeat, onward}

@@ -4,7 +4,7 @@ use Prim.Native.Nat.{ℕ, zero, suc}
 use Prim.Native.String.{String}
 use lib.Dec.{ltb}
 use Rattle.meaning.specs.BitSet.{has}
-use Rattle.automaton.specs.declared.refusal.Refusal.the-variants.{Size, Undeclared}
+use Rattle.refusals.specs.declared.Refusal.the-variants.{Size, Undeclared}
 use Rattle.hoa_text.specs.Tokens.{Stream}
 use Rattle.hoa_text.specs.Grammar.{numberOf, isWord, isSign, next, rest, at, Result, gives, refuses, Parsed, then, due, expect, Turn, again, done, repeat}
 

@@ -9,7 +9,6 @@ pub mod Written
 pub mod First
 pub mod Numbers
 pub mod Names
-pub mod SingleSets
 pub mod Repetition
 pub mod Progress
 pub mod LabelProgress

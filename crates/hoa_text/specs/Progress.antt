@@ -5,7 +5,7 @@ use mathlib.Core.Option.{Option, none, some}
 use Prim.Native.Nat.{ℕ, suc, _≤_, _<_}
 use native.Mathlib.Omega.{arith}
 use Rattle.meaning.specs.TestLaws.{on-cond}
-use Rattle.automaton.specs.declared.refusal.Refusal.the-variants.{Form}
+use Rattle.refusals.specs.declared.Refusal.the-variants.{Form}
 use Rattle.hoa_text.specs.Basics.{option}
 use Rattle.hoa_text.specs.Tokens.{Token, Stream, stands, over, broken}
 use Rattle.hoa_text.specs.Grammar.{next, rest, at, gives, refuses, Parsed, then, due, expect, size, onward}

@@ -13,7 +13,7 @@ use Rattle.meaning.specs.BitSet.{has}
 use Rattle.meaning.specs.Counting.{each}
 use Rattle.meaning.specs.CountingLaws.{each-length, each-at}
 use Rattle.automaton.specs.declared.Automaton.{Automaton}
-use Rattle.automaton.specs.declared.refusal.Refusal.the-variants.{Size, Body, NoEdge}
+use Rattle.refusals.specs.declared.Refusal.the-variants.{Size, Body, NoEdge}
 use Rattle.automaton.specs.Equality.{Same, equal-values}
 use Rattle.automaton.specs.Value.{Valid, destination, markSet, name}
 use Rattle.hoa_text.specs.Basics.{option, isSome}

@@ -7,8 +7,8 @@ use Prim.Native.Nat.{ℕ}
 use lib.Dec.{leb}
 use lib.ListN.{length, getD}
 use Rattle.automaton.specs.declared.Automaton.{Automaton}
-use Rattle.automaton.specs.declared.refusal.Refusal.{Refusal}
-use Rattle.automaton.specs.declared.refusal.Refusal.the-variants.{Form, Size, Body, NoEdge}
+use Rattle.refusals.specs.declared.Refusal.{Refusal}
+use Rattle.refusals.specs.declared.Refusal.the-variants.{Form, Size, Body, NoEdge}
 use Rattle.automaton.specs.Value.{table, rows}
 use Rattle.hoa_text.specs.Basics.{option, isSome, first}
 use Rattle.hoa_text.specs.Tokens.{Stream, stands, over, broken, tokens}

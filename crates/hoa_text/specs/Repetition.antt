@@ -3,7 +3,7 @@ use mathlib.Core.Path.{_≡_, refl, ap, _∙_}
 use Prim.Native.Nat.{ℕ, zero, suc, _<_}
 use native.Mathlib.Nat.{not-suc-le-zero}
 use native.Mathlib.Omega.{arith}
-use Rattle.automaton.specs.declared.refusal.Refusal.{Refusal}
+use Rattle.refusals.specs.declared.Refusal.{Refusal}
 use Rattle.hoa_text.specs.Tokens.{Stream}
 use Rattle.hoa_text.specs.Grammar.{Result, gives, refuses, Parsed, then, Turn, again, done, turn, size, repeatWithin, repeat, onward}
 

@@ -9,8 +9,8 @@ use lib.Dec.{ltb, eqb}
 use lib.ListN.{length}
 use lib.Pow.{pow-lt, pow-pos}
 use Rattle.meaning.specs.TestLaws.{and-left, and-right, on-cond}
-use Rattle.automaton.specs.declared.refusal.Refusal.{Refusal}
-use Rattle.automaton.specs.declared.refusal.Refusal.the-variants.{Form, Undeclared}
+use Rattle.refusals.specs.declared.Refusal.{Refusal}
+use Rattle.refusals.specs.declared.Refusal.the-variants.{Form, Undeclared}
 use Rattle.hoa_text.specs.Basics.{option}
 use Rattle.hoa_text.specs.Tokens.{Stream, stands, over, broken}
 use Rattle.hoa_text.specs.Grammar.{numberOf, isItem, isSign, next, rest, at, gives, refuses, Parsed, due, Turn, onward}

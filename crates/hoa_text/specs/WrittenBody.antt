@@ -12,7 +12,7 @@ use lib.ListN.{length}
 use Rattle.meaning.specs.Counting.{each}
 use Rattle.meaning.specs.CountingLaws.{each-length}
 use Rattle.automaton.specs.declared.Automaton.{Automaton}
-use Rattle.automaton.specs.declared.refusal.Refusal.the-variants.{Undeclared, Body, SecondEdge}
+use Rattle.refusals.specs.declared.Refusal.the-variants.{Undeclared, Body, SecondEdge}
 use Rattle.automaton.specs.Value.{Valid, destination, markSet, name}
 use Rattle.automaton.specs.Value as Value
 use Rattle.automaton.specs.Bytes.{bytes}

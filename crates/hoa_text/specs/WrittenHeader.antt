@@ -13,7 +13,7 @@ use Rattle.meaning.specs.TestLaws.{and-true}
 use Rattle.meaning.specs.Counting.{each}
 use Rattle.meaning.specs.CountingLaws.{each-length, each-at}
 use Rattle.automaton.specs.declared.Automaton.{Automaton}
-use Rattle.automaton.specs.declared.refusal.Refusal.the-variants.{Size, Item, Undeclared}
+use Rattle.refusals.specs.declared.Refusal.the-variants.{Size, Item, Undeclared}
 use Rattle.automaton.specs.Value.{Valid, name}
 use Rattle.automaton.specs.Bytes.{bytes}
 use Rattle.hoa_text.specs.Basics.{option}

@@ -12,7 +12,7 @@ use Rattle.meaning.specs.BitSet.{has}
 use Rattle.meaning.specs.Counting.{each}
 use Rattle.automaton.specs.declared.Automaton.{Automaton}
 use Rattle.automaton.specs.Value.{Valid, letters, destination, markSet, name}
-use Rattle.automaton.specs.Powers.{letters-le}
+use Rattle.automaton.specs.Letters.{letters-le}
 use Rattle.automaton.specs.Bytes.{bytes}
 use Rattle.hoa_text.specs.Written.{decimal, followed, separated, line, statesLine, startLine, quotedName, namesLine, namesPart, infOf, conditionOf, acceptanceLine, bodyLine, stateLine, literalOf, labelOf, members, marksOf, edgeLine, stateLines, endLine, text}
 use Rattle.hoa_text.specs.Names.{name-length}

@@ -14,7 +14,7 @@ use lib.ListN.{length, length-append}
 use lib.Pow.{pow-pos}
 use Rattle.meaning.specs.BitSet.{has, digit as bit}
 use Rattle.meaning.specs.BitSetLaws.{low}
-use Rattle.automaton.specs.declared.refusal.Refusal.the-variants.{Undeclared}
+use Rattle.refusals.specs.declared.Refusal.the-variants.{Undeclared}
 use Rattle.automaton.specs.Bytes.{bytes}
 use Rattle.hoa_text.specs.Tokens.{lex}
 use Rattle.hoa_text.specs.Grammar.{isSign, next, rest, gives, refuses}

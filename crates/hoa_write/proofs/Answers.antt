@@ -9,7 +9,7 @@ use borrow.Author.Tests.{not-true}
 use lib.ListN.{length, drop, length-append}
 use Rattle.meaning.specs.Counting.{each}
 use Rattle.automaton.specs.declared.Automaton.{Automaton}
-use Rattle.automaton.specs.declared.refusal.Refusal.the-variants.{Outside, Short}
+use Rattle.refusals.specs.declared.Refusal.the-variants.{Outside, Short}
 use Rattle.automaton.specs.Value.{Valid}
 use Rattle.decimal.specs.Wrote.{Wrote}
 use Rattle.hoa_text.specs.Written.{text, hoaLine, statesLine, startLine, namesPart, acceptanceLine, bodyLine, stateLines, endLine}

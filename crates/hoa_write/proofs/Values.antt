@@ -9,7 +9,8 @@ use borrow.Author.Tests.{eq-eqb, ne-eqb}
 use lib.ListN.{take, drop}
 use Rattle.automaton.specs.declared.Automaton.{Automaton}
 use Rattle.automaton.specs.Value.{Valid, letters, markSet, nameLength}
-use Rattle.automaton.specs.Powers.{power-le, letters-le}
+use Rattle.bits.specs.Powers.{power-le}
+use Rattle.automaton.specs.Letters.{letters-le}
 use Rattle.decimal.specs.Wrote.{Wrote}
 use Rattle.decimal.specs.Writing.{wrote-none}
 use Rattle.hoa_text.specs.Written.{quotedName, namesLine, namesPart}

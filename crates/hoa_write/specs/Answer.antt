@@ -5,9 +5,9 @@ use mathlib.Core.Option.{Option, none, some}
 use Prim.Native.Nat.{ℕ, _≤_, _<_}
 use lib.ListN.{length, drop}
 use Rattle.automaton.specs.declared.Automaton.{Automaton}
-use Rattle.automaton.specs.declared.refusal.Code.{Code}
-use Rattle.automaton.specs.declared.refusal.Refusal.the-variants.{Outside, Short}
-use Rattle.automaton.specs.Refused.{row, codeOf}
+use Rattle.refusals.specs.declared.Code.{Code}
+use Rattle.refusals.specs.declared.Refusal.the-variants.{Outside, Short}
+use Rattle.refusals.specs.Refused.{row, codeOf}
 use Rattle.automaton.specs.Value.{Valid}
 use Rattle.hoa_text.specs.Written.{text}
 use Rattle.hoa_write.specs.declared.Written.{Written}

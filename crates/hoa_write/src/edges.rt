@@ -3,7 +3,7 @@ use crate::lines;
 use crate::parts::byte_if;
 use crate::parts::number;
 use automaton::Automaton;
-use automaton::powers::power_of_two;
+use bits::powers::power_of_two;
 use pieces::byte;
 use pieces::word;
 ghost use mathlib.Core.Path.{_≡_};
@@ -23,7 +23,7 @@ pub fn state_lines(a: Automaton, q: usize, out: &mut [u8]) -> usize
     requires { ⌜ Valid a × (q < a .states) × (length (stateLines a q) ≤ length (now out)) ⌝ }
     ensures { λ r. ⌜ Wrote (now (out .entry)) 0 (stateLines a q) (now (out .exit)) r ⌝ }
 {
-    let at = lines::number_line(&words::STATE, q, out);
+    let at = lines::number_line(&hoa_words::STATE, q, out);
     at + edge_lines(a, q, &mut out[at..])
 }
 
@@ -70,7 +70,7 @@ fn label(k: usize, l: usize, out: &mut [u8], at: usize) -> usize
     ensures { λ r. ⌜ Wrote (now (out .entry)) at (labelOf k l) (now (out .exit)) r ⌝ }
 {
     if k == 0 {
-        return word(&words::TRUE, out, at);
+        return word(&hoa_words::TRUE, out, at);
     }
     literals(k, l, out, at)
 }

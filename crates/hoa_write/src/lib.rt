@@ -1,6 +1,6 @@
 // The writer of HOA text.
 use automaton::Automaton;
-use automaton::refusal::Refusal;
+use refusals::Refusal;
 ghost use Prim.Native.Nat.{_≤_};
 ghost use mathlib.Core.List.{_++_};
 ghost use lib.ListN.{length};
@@ -52,8 +52,8 @@ fn sizes(a: Automaton, out: &mut [u8]) -> usize
     ensures { λ r. ⌜ Wrote (now (out .entry)) 0 (hoaLine ++ (statesLine a ++ startLine a)) (now (out .exit)) r ⌝ }
 {
     let mut at = lines::hoa_line(out);
-    at += lines::number_line(&words::STATES, a.states, &mut out[at..]);
-    at + lines::number_line(&words::START, a.start, &mut out[at..])
+    at += lines::number_line(&hoa_words::STATES, a.states, &mut out[at..]);
+    at + lines::number_line(&hoa_words::START, a.start, &mut out[at..])
 }
 
 fn names_and_acceptance(a: Automaton, out: &mut [u8]) -> usize
@@ -68,9 +68,9 @@ fn body(a: Automaton, out: &mut [u8]) -> usize
     requires { ⌜ Valid a × (length (bodyLine ++ (each (a .states) (stateLines a) ++ endLine)) ≤ length (now out)) ⌝ }
     ensures { λ r. ⌜ Wrote (now (out .entry)) 0 (bodyLine ++ (each (a .states) (stateLines a) ++ endLine)) (now (out .exit)) r ⌝ }
 {
-    let mut at = lines::word_line(&words::BODY, out);
+    let mut at = lines::word_line(&hoa_words::BODY, out);
     at += states(a, &mut out[at..]);
-    at + lines::word_line(&words::END, &mut out[at..])
+    at + lines::word_line(&hoa_words::END, &mut out[at..])
 }
 
 fn states(a: Automaton, out: &mut [u8]) -> usize

@@ -18,9 +18,9 @@ pub fn hoa_line(out: &mut [u8]) -> usize
     requires { ⌜ length hoaLine ≤ length (now out) ⌝ }
     ensures { λ r. ⌜ Wrote (now (out .entry)) 0 hoaLine (now (out .exit)) r ⌝ }
 {
-    let mut at = word(&words::HOA, out, 0);
+    let mut at = word(&hoa_words::HOA, out, 0);
     at = byte(b' ', out, at);
-    at = word(&words::VERSION, out, at);
+    at = word(&hoa_words::VERSION, out, at);
     byte(b'\n', out, at)
 }
 
@@ -67,7 +67,7 @@ fn names_line(a: Automaton, out: &mut [u8]) -> usize
     requires { ⌜ Valid a × (length (namesLine a) ≤ length (now out)) ⌝ }
     ensures { λ r. ⌜ Wrote (now (out .entry)) 0 (namesLine a) (now (out .exit)) r ⌝ }
 {
-    let mut at = item(&words::AP, a.propositions, out);
+    let mut at = item(&hoa_words::AP, a.propositions, out);
     at = quoted_names(a, out, at);
     byte(b'\n', out, at)
 }
@@ -103,7 +103,7 @@ pub fn acceptance_line(a: Automaton, out: &mut [u8]) -> usize
     requires { ⌜ Valid a × (length (acceptanceLine a) ≤ length (now out)) ⌝ }
     ensures { λ r. ⌜ Wrote (now (out .entry)) 0 (acceptanceLine a) (now (out .exit)) r ⌝ }
 {
-    let mut at = item(&words::ACCEPTANCE, a.sets, out);
+    let mut at = item(&hoa_words::ACCEPTANCE, a.sets, out);
     at = byte(b' ', out, at);
     at = condition(a.sets, out, at);
     byte(b'\n', out, at)
@@ -114,7 +114,7 @@ fn condition(sets: usize, out: &mut [u8], at: usize) -> usize
     ensures { λ r. ⌜ Wrote (now (out .entry)) at (conditionOf sets) (now (out .exit)) r ⌝ }
 {
     if sets == 0 {
-        return word(&words::TRUE, out, at);
+        return word(&hoa_words::TRUE, out, at);
     }
     infs(sets, out, at)
 }
@@ -137,7 +137,7 @@ fn inf(i: usize, out: &mut [u8], at: usize) -> usize
     requires { ⌜ (i < 100) × (at + length (infOf i) ≤ length (now out)) ⌝ }
     ensures { λ r. ⌜ Wrote (now (out .entry)) at (infOf i) (now (out .exit)) r ⌝ }
 {
-    let mut next = word(&words::INF, out, at);
+    let mut next = word(&hoa_words::INF, out, at);
     next = byte(b'(', out, next);
     next = number(i, out, next);
     byte(b')', out, next)

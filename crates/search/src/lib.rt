@@ -1,7 +1,7 @@
 // The search for fewer states: the question it asks next, and the best table so far.
 use automaton::Automaton;
-use automaton::refusal::Refusal;
 use compare::Comparison;
+use refusals::Refusal;
 ghost use mathlib.Core.Path.{_≡_};
 ghost use mathlib.Core.Logic.{_↔_};
 ghost use mathlib.Core.Bool.{true};

@@ -1,7 +1,7 @@
 -- `difference` meets its contract.
 use Rattle.compare.specs.Searched.{searched}
 use borrow.Author.Needs.{needs}
-use Rattle.automaton.specs.Powers.{power-is}
+use Rattle.bits.specs.Powers.{power-is}
 use Rattle.compare.proofs.difference.Statement.{statement}
 use Rattle.compare.proofs.difference.Tie as tie
 

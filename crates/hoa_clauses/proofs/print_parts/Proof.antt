@@ -1,7 +1,7 @@
 -- `print_parts` meets its contract.
 use mathlib.Core.Path.{refl}
 use native.Mathlib.Omega.{arith}
-use Rattle.report.specs.Lines.{headerLine}
+use Rattle.console_report.specs.Lines.{headerLine}
 use Rattle.hoa_clauses.proofs.Files.{after-header}
 use borrow.Author.Needs.{needs}
 use Rattle.hoa_clauses.proofs.print_parts.Statement.{statement}

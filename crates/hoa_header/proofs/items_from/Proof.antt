@@ -4,7 +4,7 @@ use Prim.Native.Nat.{_-_}
 use native.Mathlib.Omega.{arith}
 use borrow.Author.Needs.{needs}
 use lib.ListN.{length}
-use Rattle.scan.specs.Answers.{Reads}
+use Rattle.hoa_tokens.specs.Answers.{Reads}
 use Rattle.hoa_header.proofs.Opened.{ItemsSoFar, items-none, item-refused, item-further, item-more, body-opens, no-item}
 use Rattle.hoa_header.proofs.items_from.Statement.{statement}
 use Rattle.hoa_header.proofs.items_from.Tie as tie

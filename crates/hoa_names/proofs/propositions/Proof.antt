@@ -2,7 +2,7 @@
 use mathlib.Core.Path.{subst}
 use borrow.Author.Needs.{needs}
 use denote.Ref.{now}
-use Rattle.scan.specs.Answers as Scanned
+use Rattle.hoa_tokens.specs.Answers as Scanned
 use Rattle.hoa_names.proofs.Text.{no-count, count-ends, count-over, count-read}
 use Rattle.hoa_names.proofs.propositions.Statement.{statement}
 use Rattle.hoa_names.proofs.propositions.Tie as tie

@@ -1,7 +1,7 @@
 -- `ended` meets its contract.
 use mathlib.Core.Path.{subst}
 use borrow.Author.Needs.{needs}
-use Rattle.scan.specs.Answers.{Reads}
+use Rattle.hoa_tokens.specs.Answers.{Reads}
 use Rattle.hoa_read.proofs.EndLaws.{ended-over, ended-broken, ended-token}
 use Rattle.hoa_read.proofs.ended.Statement.{statement}
 use Rattle.hoa_read.proofs.ended.Tie as tie

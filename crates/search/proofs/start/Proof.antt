@@ -1,6 +1,6 @@
 -- `start` meets its contract.
 use mathlib.Core.Path.{ap, _∙_}
-use Rattle.automaton.specs.declared.refusal.Refusal.the-variants.{Outside}
+use Rattle.refusals.specs.declared.Refusal.the-variants.{Outside}
 use Rattle.search.specs.declared.Answer.the-variants.{Taken}
 use Rattle.search.specs.Replies.{outside, taken, replied, refused}
 use Rattle.meaning.specs.TestLaws.{fails-not, passes-so}

@@ -2,7 +2,7 @@
 use Rattle.clause_text.proofs.Slots.{found-room, text-size, text-copied}
 use Rattle.clause_text.proofs.Literals.{path-slot-is, states-le, sets-le, slot-lt, slot-text}
 use Prim.Native.Nat.{_+_, _*_}
-use Rattle.variables.specs.Limits.{candidate-subsets-le}
+use Rattle.clause_variables.specs.Limits.{candidate-subsets-le}
 use borrow.Author.Needs.{needs}
 use native.Mathlib.Omega.{arith}
 use Rattle.clause_text.proofs.keeping.write_path.Statement.{statement}

@@ -2,7 +2,7 @@
 use mathlib.Core.Path.{refl, sym, ap, _∙_}
 use mathlib.Core.Bool.{true≢false, false≢true}
 use borrow.Author.Tests.{not-true, not-false}
-use Rattle.numerals.specs.Numbers.{numberOf}
+use Rattle.console_numerals.specs.Numbers.{numberOf}
 use borrow.Author.Needs.{needs}
 use Rattle.console.proofs.input.number.Statement.{statement}
 use Rattle.console.proofs.input.number.Tie as tie

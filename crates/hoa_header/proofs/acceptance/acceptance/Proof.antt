@@ -1,7 +1,7 @@
 -- `acceptance::acceptance` meets its contract.
 use mathlib.Core.Path.{subst}
 use borrow.Author.Needs.{needs}
-use Rattle.scan.specs.Answers.{Reads}
+use Rattle.hoa_tokens.specs.Answers.{Reads}
 use Rattle.hoa_header.proofs.Condition.{sets-missing, sets-over, sets-read}
 use Rattle.hoa_header.proofs.acceptance.acceptance.Statement.{statement}
 use Rattle.hoa_header.proofs.acceptance.acceptance.Tie as tie

@@ -1,7 +1,7 @@
 -- `acceptance::departure` meets its contract.
 use mathlib.Core.Path.{subst}
 use borrow.Author.Needs.{needs}
-use Rattle.scan.specs.Answers.{Reads}
+use Rattle.hoa_tokens.specs.Answers.{Reads}
 use Rattle.hoa_header.proofs.Condition.{departs-over, departs-broken, departs-token}
 use Rattle.hoa_header.proofs.acceptance.departure.Statement.{statement}
 use Rattle.hoa_header.proofs.acceptance.departure.Tie as tie

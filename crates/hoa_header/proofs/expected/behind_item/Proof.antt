@@ -5,8 +5,8 @@ use native.Mathlib.Omega.{arith}
 use borrow.Author.Needs.{needs}
 use denote.Ref.{now}
 use lib.ListN.{length, take}
-use Rattle.words.specs.Inside.{item-named}
-use Rattle.scan.specs.Answers.{Reads}
+use Rattle.hoa_words.specs.Inside.{item-named}
+use Rattle.hoa_tokens.specs.Answers.{Reads}
 use Rattle.hoa_header.proofs.Tokens.{item-stands, item-differs, item-missing}
 use Rattle.hoa_header.proofs.expected.behind_item.Statement.{statement}
 use Rattle.hoa_header.proofs.expected.behind_item.Tie as tie

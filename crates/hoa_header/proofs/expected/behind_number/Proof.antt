@@ -1,7 +1,7 @@
 -- `expected::behind_number` meets its contract.
 use mathlib.Core.Path.{subst}
 use borrow.Author.Needs.{needs}
-use Rattle.scan.specs.Answers.{Reads}
+use Rattle.hoa_tokens.specs.Answers.{Reads}
 use Rattle.hoa_header.proofs.Tokens.{number-stands, number-differs, no-number}
 use Rattle.hoa_header.proofs.expected.behind_number.Statement.{statement}
 use Rattle.hoa_header.proofs.expected.behind_number.Tie as tie

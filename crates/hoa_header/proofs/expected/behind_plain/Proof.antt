@@ -2,7 +2,7 @@
 use mathlib.Core.Path.{subst}
 use native.Mathlib.Omega.{arith}
 use borrow.Author.Needs.{needs}
-use Rattle.scan.specs.Answers.{Reads}
+use Rattle.hoa_tokens.specs.Answers.{Reads}
 use Rattle.hoa_header.proofs.Tokens.{plain-word, plain-number, plain-quoted, not-plain}
 use Rattle.hoa_header.proofs.expected.behind_plain.Statement.{statement}
 use Rattle.hoa_header.proofs.expected.behind_plain.Tie as tie

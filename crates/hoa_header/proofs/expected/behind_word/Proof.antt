@@ -3,8 +3,8 @@ use mathlib.Core.Path.{_∙_, subst}
 use native.Mathlib.Omega.{arith}
 use borrow.Author.Needs.{needs}
 use denote.Ref.{now}
-use Rattle.words.specs.Inside.{spelled}
-use Rattle.scan.specs.Answers.{Reads}
+use Rattle.hoa_words.specs.Inside.{spelled}
+use Rattle.hoa_tokens.specs.Answers.{Reads}
 use Rattle.hoa_header.proofs.Tokens.{word-stands, word-differs, word-missing}
 use Rattle.hoa_header.proofs.expected.behind_word.Statement.{statement}
 use Rattle.hoa_header.proofs.expected.behind_word.Tie as tie

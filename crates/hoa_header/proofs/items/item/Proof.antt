@@ -4,7 +4,7 @@ use native.Mathlib.Omega.{arith}
 use borrow.Author.Tests.{not-true, not-false}
 use borrow.Author.Needs.{needs}
 use denote.Ref.{now}
-use Rattle.words.specs.Inside.{item-named}
+use Rattle.hoa_words.specs.Inside.{item-named}
 use Rattle.hoa_names.specs.declared.Step.the-variants.{Next}
 use Rattle.hoa_header.proofs.Turns.{turn-states, turn-start, turn-names, turn-sets, turn-other, turn-skipped}
 use Rattle.hoa_header.proofs.items.item.Statement.{statement}

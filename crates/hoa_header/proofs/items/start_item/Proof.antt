@@ -2,7 +2,7 @@
 use mathlib.Core.Path.{subst}
 use borrow.Author.Needs.{needs}
 use denote.Ref.{now}
-use Rattle.scan.specs.Answers.{Reads}
+use Rattle.hoa_tokens.specs.Answers.{Reads}
 use Rattle.hoa_header.proofs.Kept.{start-twice, start-kept, start-missing}
 use Rattle.hoa_header.proofs.items.start_item.Statement.{statement}
 use Rattle.hoa_header.proofs.items.start_item.Tie as tie

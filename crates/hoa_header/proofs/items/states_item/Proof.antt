@@ -2,7 +2,7 @@
 use mathlib.Core.Path.{subst}
 use borrow.Author.Needs.{needs}
 use denote.Ref.{now}
-use Rattle.scan.specs.Answers.{Reads}
+use Rattle.hoa_tokens.specs.Answers.{Reads}
 use Rattle.hoa_header.proofs.Kept.{states-twice, states-read, states-missing}
 use Rattle.hoa_header.proofs.items.states_item.Statement.{statement}
 use Rattle.hoa_header.proofs.items.states_item.Tie as tie

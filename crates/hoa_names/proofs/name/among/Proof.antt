@@ -7,7 +7,7 @@ use borrow.Author.Needs.{needs}
 use denote.Ref.{now}
 use lib.ListN.{length, drop}
 use Rattle.hoa_text.specs.Header as Header
-use Rattle.words.specs.Inside.{spelled}
+use Rattle.hoa_words.specs.Inside.{spelled}
 use Rattle.hoa_names.specs.Naming.{Slots}
 use Rattle.hoa_names.proofs.Slots.{among-found, among-passed, among-end}
 use Rattle.hoa_names.proofs.name.among.Statement.{statement}

@@ -4,8 +4,8 @@ use Prim.Native.Nat.{_+_}
 use native.Mathlib.Omega.{arith}
 use borrow.Author.Needs.{needs}
 use denote.Ref.{now}
-use Rattle.words.proofs.Laws.{part-is}
-use Rattle.scan.specs.Answers as Scanned
+use Rattle.hoa_words.proofs.Laws.{part-is}
+use Rattle.hoa_tokens.specs.Answers as Scanned
 use Rattle.hoa_names.proofs.Text.{name-read, no-name}
 use Rattle.hoa_names.proofs.name.name.Statement.{statement}
 use Rattle.hoa_names.proofs.name.name.Tie as tie

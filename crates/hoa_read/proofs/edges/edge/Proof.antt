@@ -4,7 +4,7 @@ use borrow.Author.Needs.{needs}
 use denote.Ref.{now}
 use Rattle.hoa_text.specs.Labels.{label}
 use Rattle.hoa_text.specs.Tokens.{left}
-use Rattle.labels.specs.Answers.{Answers}
+use Rattle.hoa_labels.specs.Answers.{Answers}
 use Rattle.hoa_read.proofs.EdgeLaws.{label-refused, label-read}
 use Rattle.hoa_read.proofs.edges.edge.Statement.{statement}
 use Rattle.hoa_read.proofs.edges.edge.Tie as tie

@@ -1,8 +1,8 @@
 -- `edges::labelled` meets its contract.
 use mathlib.Core.Path.{subst}
 use borrow.Author.Needs.{needs}
-use Rattle.scan.specs.Answers.{Reads}
-use Rattle.scan.proofs.Due.{number-missing}
+use Rattle.hoa_tokens.specs.Answers.{Reads}
+use Rattle.hoa_tokens.proofs.Due.{number-missing}
 use Rattle.hoa_read.proofs.EdgeLaws.{unclosed, arrived, arrived-nowhere, no-destination}
 use Rattle.hoa_read.proofs.edges.labelled.Statement.{statement}
 use Rattle.hoa_read.proofs.edges.labelled.Tie as tie

@@ -4,8 +4,8 @@ use Prim.Native.Nat.{_-_}
 use native.Mathlib.Omega.{arith}
 use borrow.Author.Needs.{needs}
 use lib.ListN.{length}
-use Rattle.scan.specs.Answers.{Reads}
-use Rattle.scan.proofs.Due.{number-missing}
+use Rattle.hoa_tokens.specs.Answers.{Reads}
+use Rattle.hoa_tokens.proofs.Due.{number-missing}
 use Rattle.hoa_read.proofs.EdgeLaws.{Listed, mark-undeclared, mark-listed, marks-closed}
 use Rattle.hoa_read.proofs.edges.listed.Statement.{statement}
 use Rattle.hoa_read.proofs.edges.listed.Tie as tie

@@ -2,8 +2,8 @@
 use mathlib.Core.Path.{_∙_, subst}
 use native.Mathlib.Omega.{arith}
 use borrow.Author.Needs.{needs}
-use Rattle.words.specs.Inside.{item-named}
-use Rattle.scan.specs.Answers.{Reads}
+use Rattle.hoa_words.specs.Inside.{item-named}
+use Rattle.hoa_tokens.specs.Answers.{Reads}
 use Rattle.hoa_read.proofs.PartLaws.{state-part, other-item, other-sign, no-state-yet, edge-part, end-part, no-part}
 use Rattle.hoa_read.proofs.parts.next_part.Statement.{statement}
 use Rattle.hoa_read.proofs.parts.next_part.Tie as tie

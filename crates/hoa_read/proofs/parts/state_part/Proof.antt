@@ -1,8 +1,8 @@
 -- `parts::state_part` meets its contract.
 use mathlib.Core.Path.{sym, _∙_, subst}
 use borrow.Author.Needs.{needs}
-use Rattle.scan.specs.Answers.{Reads}
-use Rattle.scan.proofs.Due.{number-missing}
+use Rattle.hoa_tokens.specs.Answers.{Reads}
+use Rattle.hoa_tokens.proofs.Due.{number-missing}
 use Rattle.hoa_read.proofs.PartLaws.{state-undeclared, state-twice, state-first, no-state}
 use Rattle.hoa_read.proofs.parts.state_part.Statement.{statement}
 use Rattle.hoa_read.proofs.parts.state_part.Tie as tie

@@ -2,7 +2,7 @@
 use mathlib.Core.Path.{subst}
 use native.Mathlib.Omega.{arith}
 use borrow.Author.Needs.{needs}
-use Rattle.scan.specs.Answers.{Reads}
+use Rattle.hoa_tokens.specs.Answers.{Reads}
 use Rattle.hoa_read.proofs.PartLaws.{behind-quoted, none-quoted}
 use Rattle.hoa_read.proofs.parts.unquoted.Statement.{statement}
 use Rattle.hoa_read.proofs.parts.unquoted.Tie as tie

@@ -3,7 +3,7 @@ use mathlib.Core.Path.{ap}
 use Prim.Native.Nat.{_%_}
 use native.Mathlib.Omega.{arith}
 use borrow.Author.Needs.{needs}
-use Rattle.automaton.specs.Powers.{power-is}
+use Rattle.bits.specs.Powers.{power-is}
 use Rattle.hoa_write.proofs.edges.below.Statement.{statement}
 use Rattle.hoa_write.proofs.edges.below.Tie as tie
 

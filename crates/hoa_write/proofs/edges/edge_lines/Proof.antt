@@ -6,7 +6,7 @@ use borrow.Author.Needs.{needs}
 use lib.ListN.{length}
 use Rattle.meaning.specs.Counting.{each}
 use Rattle.automaton.specs.Value.{letters}
-use Rattle.automaton.specs.Powers.{power-is}
+use Rattle.bits.specs.Powers.{power-is}
 use Rattle.decimal.specs.Wrote.{Wrote}
 use Rattle.decimal.specs.Writing.{wrote-none, wrote-length, wrote-part}
 use Rattle.hoa_text.specs.Written.{edgeLine}

@@ -5,7 +5,7 @@ use native.Mathlib.Omega.{arith}
 use borrow.Author.Needs.{needs}
 use lib.Dec.{eqb}
 use Rattle.meaning.specs.BitSetLaws.{has-test}
-use Rattle.automaton.specs.Powers.{power-is}
+use Rattle.bits.specs.Powers.{power-is}
 use Rattle.hoa_write.proofs.edges.has.Statement.{statement}
 use Rattle.hoa_write.proofs.edges.has.Tie as tie
 

@@ -1,0 +1,4 @@
+pub mod Powers
+pub mod Sets
+pub mod SetLaws
+pub mod SingleSets

@@ -1,0 +1,47 @@
+-- `step` meets its contract: refusals in document 01's order, then what is found.
+use mathlib.Core.Path.{refl, subst}
+use Rattle.clause_step.specs.Step.{short, outside, StepFound}
+use Rattle.clause_variables.specs.Measured.{sizing-of, sizing-refused, measured-of}
+use Rattle.clause_step.specs.Shared.{refused-sizes}
+use Rattle.clause_step.proofs.Laws.{stepped}
+use borrow.Author.Needs.{needs}
+use native.Mathlib.Omega.{arith}
+use Rattle.clause_step.proofs.step.Statement.{statement}
+use Rattle.clause_step.proofs.step.Tie as tie
+
+returns : tie.Need-returns
+returns c = (short (c .if1 .taken), refl, refl)
+
+returns-2 : tie.Need-returns-2
+returns-2 c = (outside (omega arith) (λ (v, i). omega arith), refl, refl)
+
+measure-requires : tie.Need-measure-requires
+measure-requires c κs = search needs
+
+enum-known-sized : tie.Need-enum-known-sized
+enum-known-sized c = search needs
+
+find-requires : tie.Need-find-requires
+find-requires c κs = let (v, i, e) = sizing-of (c .before .before .before .before .measure .ensures) (c .before .before .sized .given .1) in
+    (measured-of v i e, omega arith)
+
+enum-known-sized-2 : tie.Need-enum-known-sized-2
+enum-known-sized-2 c = search needs
+
+same-length : tie.Need-same-length
+same-length c = c .before .find .kept .1 .1 .1 .0
+
+returns-3 : tie.Need-returns-3
+returns-3 c = let (v, i, q) = sizing-of (c .before .before .before .before .before .before .measure .ensures) (c .before .before .before .before .sized .given .1) in
+    let a = c .before .before .before .before .before .before .before .before .before .args in
+    stepped (a .reference) (a .n) (a .m) (a .position) (a .clause .now) _ (c .before .find .result)
+    (record { room = omega arith; valid = v; in-range = omega arith; dimensioned = i })
+    (subst (λ z. StepFound (a .reference) (z .candidate .states) (z .candidate .sets) (a .position) (a .clause .now) (c .before .find .last .1 .1 .1 .0) (c .before .find .result .answer) (c .before .find .result .position)) q (c .before .find .ensures))
+
+returns-4 : tie.Need-returns-4
+returns-4 c = (refused-sizes (omega arith) (omega arith) (sizing-refused (c .before .before .before .measure .ensures) (c .before .sized2 .given .1)), refl, refl)
+
+pub step-spec : {M : Type 1} → statement M
+step-spec =
+    tie.close
+    (tie.spec returns returns-2 measure-requires enum-known-sized find-requires enum-known-sized-2 same-length returns-3 returns-4)

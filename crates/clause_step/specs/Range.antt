@@ -1,0 +1,37 @@
+-- The positions of every file lie in one range, and a step from a position in it leads to one in it.
+use mathlib.Core.Path.{_≡_, refl}
+use mathlib.Core.Bool.{true, false}
+use Prim.Native.Nat.{ℕ, _*_, _^_, _≤_}
+use native.Mathlib.Nat.{mul-le-mul}
+use native.Mathlib.Omega.{arith}
+use Rattle.automaton.specs.declared.Automaton.{Automaton}
+use Rattle.automaton.specs.Value.{Valid}
+use Rattle.automaton.specs.View.{view}
+use Rattle.bits.specs.Powers.{power-le}
+use Rattle.encoding.specs.Variables.{base, base-number}
+use Rattle.encoding.specs.Positions.{positions}
+use Rattle.clause_variables.specs.Sizes.{Dimensioned}
+use Rattle.clause_list.specs.Following.{position-of, next-le}
+use Rattle.clause_step.specs.Step.{last-position, found-from}
+
+-- the largest sizes have the largest position
+pub largest-positions : positions (base (record { states = 16; letters = 16; sets = 4; start = 0; step = λ q l. 0; marks = λ q l i. false; accept = λ S. true }) 8 4) (λ x. 0)
+    ≡ last-position
+largest-positions = refl
+
+pub positions-le : {a : Automaton} {n m : ℕ} → Valid a → Dimensioned n m → positions (base (view a) n m) (base-number (view a) n m) ≤ last-position
+positions-le {a} {n} {m} v d =
+    let L : 2 ^ a .propositions ≤ 16 = power-le (v .propositions-le) in
+    let M : 2 ^ m ≤ 16 = power-le (d .m-le) in
+    let S : 2 ^ a .sets ≤ 16 = power-le (v .sets-le) in
+    let square : n * n ≤ 64 = mul-le-mul (d .n-le) (d .n-le) in
+    let third : n * n * n * a .states * a .states * 2 ^ a .propositions * 2 ^ m * 2 ^ a .sets * 2 ^ m ≤ 8_589_934_592 =
+    mul-le-mul (mul-le-mul (mul-le-mul (mul-le-mul (mul-le-mul (mul-le-mul (mul-le-mul square (d .n-le)) (v .states-le)) (v .states-le)) L) M) S) M in
+    let moves : n * n * a .states * 2 ^ a .propositions ≤ 16384 = mul-le-mul (mul-le-mul square (v .states-le)) L in
+    let fourth : n * n * a .states * 2 ^ a .propositions * 2 ^ m * 2 ^ a .sets * 2 ^ m ≤ 67_108_864 = mul-le-mul (mul-le-mul (mul-le-mul moves M) S) M in
+    let first : n * 2 ^ a .propositions ≤ 128 = mul-le-mul (d .n-le) L in
+    omega arith
+
+pub stays-in-range : {a : Automaton} {n m : ℕ} → Valid a → Dimensioned n m → (x : ℕ) → x ≤ last-position
+    → position-of (base (view a) n m) (base-number (view a) n m) (found-from a n m x) ≤ last-position
+stays-in-range {a} {n} {m} v d x h = next-le (base (view a) n m) (base-number (view a) n m) last-position x (positions-le v d) h

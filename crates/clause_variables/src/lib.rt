@@ -1,0 +1,99 @@
+// The variables of a clause file: its sizes, the numbers of its variables, and its literals.
+use crate::sizes::Counts;
+use crate::sizes::Sizes;
+use automaton::Automaton;
+use automaton::states::CandidateState;
+use automaton::states::ReferenceState;
+use bits::powers::power_of_two;
+ghost use mathlib.Core.Path.{_≡_};
+ghost use mathlib.Core.Logic.{_↔_};
+ghost use mathlib.Core.Bool.{true};
+ghost use Rattle.encoding.specs.Variables.{step, mark, path};
+ghost use Rattle.clause_variables.specs.Sizes.{Fitting, Counting};
+ghost use Rattle.clause_variables.specs.Numbers.{NumberIfAny};
+
+// For the crates above: their callers have tested the sizes and the indices.
+pub mod literals;
+pub mod numbers;
+pub mod sizes;
+
+// The number of step(q, l, p), or 0 where a file of these sizes has no such variable, or none has these sizes.
+pub fn step_variable(z: Sizes, q: CandidateState, l: usize, p: CandidateState) -> usize
+    ensures { λ r. ⌜ NumberIfAny z (step (q .0) l (p .0)) r ⌝ }
+{
+    if !fitting(z) {
+        return 0;
+    }
+    let n = z.candidate.states;
+    if !((q.0 < n) & (l < z.letters) & (p.0 < n)) {
+        return 0;
+    }
+    numbers::step_number(z, q, l, p)
+}
+
+// The number of mark(q, l, i, p), or 0.
+pub fn mark_variable(z: Sizes, q: CandidateState, l: usize, i: usize, p: CandidateState) -> usize
+    ensures { λ r. ⌜ NumberIfAny z (mark (q .0) l i (p .0)) r ⌝ }
+{
+    if !fitting(z) {
+        return 0;
+    }
+    let n = z.candidate.states;
+    if !((q.0 < n) & (l < z.letters) & (i < z.candidate.sets) & (p.0 < n)) {
+        return 0;
+    }
+    numbers::mark_number(z, q, l, i, p)
+}
+
+// The number of path(q, u, p, v, I, J), or 0.
+pub fn path_variable(
+    z: Sizes,
+    q: CandidateState,
+    u: ReferenceState,
+    p: CandidateState,
+    v: ReferenceState,
+    i: usize,
+    j: usize,
+) -> usize
+    ensures { λ r. ⌜ NumberIfAny z (path (q .0) (u .0) (p .0) (v .0) i j) r ⌝ }
+{
+    if !fitting(z) {
+        return 0;
+    }
+    let n = z.candidate.states;
+    let r = z.reference.states;
+    let own = z.candidate.subsets;
+    let other = z.reference.subsets;
+    if !((q.0 < n) & (u.0 < r) & (p.0 < n) & (v.0 < r) & (i < own) & (j < other)) {
+        return 0;
+    }
+    numbers::path_number(z, q, u, p, v, i, j)
+}
+
+// Whether a file can have these sizes.
+fn fitting(z: Sizes) -> bool
+    ensures { λ r. ⌜ (r ≡ true) ↔ Fitting z ⌝ }
+{
+    let candidate = z.candidate;
+    if !counting(candidate, Automaton::CANDIDATE_STATES) {
+        return false;
+    }
+    let reference = z.reference;
+    if !counting(reference, Automaton::STATES) {
+        return false;
+    }
+    if !((1 <= z.letters) & (z.letters <= Automaton::LETTERS)) {
+        return false;
+    }
+    let steps = candidate.states * candidate.states * z.letters;
+    (z.steps == steps) & (z.marks == steps + steps * candidate.sets)
+}
+
+fn counting(c: Counts, most: usize) -> bool
+    ensures { λ r. ⌜ (r ≡ true) ↔ Counting most c ⌝ }
+{
+    (1 <= c.states)
+        & (c.states <= most)
+        & (c.sets <= Automaton::SETS)
+        & (c.subsets == power_of_two(c.sets))
+}

@@ -1,0 +1,45 @@
+// The numbers of the variables.
+use crate::sizes::Sizes;
+use automaton::states::CandidateState;
+use automaton::states::ReferenceState;
+ghost use Rattle.encoding.specs.Variables.{step, mark, path};
+ghost use Rattle.clause_variables.specs.Sizes.{Fitting};
+ghost use Rattle.clause_variables.specs.Numbers.{InFile, Numbered};
+
+// step(q, l, p)
+pub fn step_number(z: Sizes, q: CandidateState, l: usize, p: CandidateState) -> usize
+    requires { ⌜ Fitting z ⌝ }
+    requires { ⌜ InFile z (step (q .0) l (p .0)) ⌝ }
+    ensures { λ r. ⌜ Numbered z (step (q .0) l (p .0)) r ⌝ }
+{
+    1 + (q.0 * z.letters + l) * z.candidate.states + p.0
+}
+
+// mark(q, l, i, p)
+pub fn mark_number(z: Sizes, q: CandidateState, l: usize, i: usize, p: CandidateState) -> usize
+    requires { ⌜ Fitting z ⌝ }
+    requires { ⌜ InFile z (mark (q .0) l i (p .0)) ⌝ }
+    ensures { λ r. ⌜ Numbered z (mark (q .0) l i (p .0)) r ⌝ }
+{
+    z.steps + (1 + (((q.0 * z.letters + l) * z.candidate.sets + i) * z.candidate.states + p.0))
+}
+
+// path(q, u, p, v, I, J)
+pub fn path_number(
+    z: Sizes,
+    q: CandidateState,
+    u: ReferenceState,
+    p: CandidateState,
+    v: ReferenceState,
+    i: usize,
+    j: usize,
+) -> usize
+    requires { ⌜ Fitting z ⌝ }
+    requires { ⌜ InFile z (path (q .0) (u .0) (p .0) (v .0) i j) ⌝ }
+    ensures { λ r. ⌜ Numbered z (path (q .0) (u .0) (p .0) (v .0) i j) r ⌝ }
+{
+    let pair = (q.0 * z.reference.states + u.0) * z.candidate.states + p.0;
+    let place = ((pair * z.reference.states + v.0) * z.candidate.subsets + i) * z.reference.subsets
+        + j;
+    z.marks + (1 + place)
+}

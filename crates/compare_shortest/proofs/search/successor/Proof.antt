@@ -1,0 +1,25 @@
+-- `search::successor` meets its contract.
+use borrow.Author.Needs.{needs}
+use Rattle.compare_shortest.specs.Graph.{succ}
+use Rattle.compare_shortest.proofs.search.successor.Statement.{statement}
+use Rattle.compare_shortest.proofs.search.successor.Tie as tie
+
+mul-result : tie.Need-mul-result
+mul-result c = search needs
+
+add-result : tie.Need-add-result
+add-result c = search needs
+
+mul-result-2 : tie.Need-mul-result-2
+mul-result-2 c = search needs
+
+shared-slice-read-result : tie.Need-shared-slice-read-result
+shared-slice-read-result c = search needs
+
+returns : tie.Need-returns
+unfolding succ
+returns c = search needs
+
+pub successor-spec : {M : Type 1} → statement M
+successor-spec =
+    tie.close (tie.spec mul-result add-result mul-result-2 shared-slice-read-result returns)

@@ -1,0 +1,48 @@
+-- What the choice of a label's next token by its first byte says.
+use mathlib.Core.Path.{_≡_}
+use mathlib.Core.Logic.{_≢_, _⊎_}
+use mathlib.Core.Bool.{true, false}
+use mathlib.Core.List.{List}
+use Prim.Native.Nat.{ℕ}
+use lib.ListN.{getD}
+use Rattle.hoa_text.specs.Tokens.{digit}
+use Rattle.hoa_tokens.specs.Answers.{Skipped}
+use Rattle.hoa_labels.specs.declared.tokens.LabelToken.{LabelToken}
+use Rattle.hoa_labels.specs.declared.tokens.LabelToken.the-variants.{Not, And, Or, Open, Close, Constant, Number, Other}
+
+abbrev pub offsetOf : LabelToken → ℕ
+offsetOf (Not o) = o
+offsetOf (And o) = o
+offsetOf (Or o) = o
+offsetOf (Open o) = o
+offsetOf (Close o) = o
+offsetOf (Constant o) = o
+offsetOf (Number o) = o
+offsetOf (Other o) = o
+
+-- a byte that opens no token of a label
+pub record OpensNone (b : ℕ) : Type 0 where
+  pub no-not : b ≢ 33
+  pub no-and : b ≢ 38
+  pub no-or : b ≢ 124
+  pub no-open : b ≢ 40
+  pub no-close : b ≢ 41
+  pub no-true : b ≢ 116
+  pub no-false : b ≢ 102
+  pub no-digit : digit b ≡ false
+
+-- the byte that chooses it
+abbrev pub Opens : ℕ → LabelToken → Type 0
+Opens b (Not o) = b ≡ 33
+Opens b (And o) = b ≡ 38
+Opens b (Or o) = b ≡ 124
+Opens b (Open o) = b ≡ 40
+Opens b (Close o) = b ≡ 41
+Opens b (Constant o) = (b ≡ 116) ⊎ (b ≡ 102)
+Opens b (Number o) = digit b ≡ true
+Opens b (Other o) = OpensNone b
+
+-- the first byte from i on that is no blank chooses x
+pub record Chosen (s : List ℕ) (i : ℕ) (x : LabelToken) : Type 0 where
+  pub skipped : Skipped s i (offsetOf x)
+  pub opens : Opens (getD s (offsetOf x) 0) x

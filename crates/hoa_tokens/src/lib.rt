@@ -1,0 +1,124 @@
+// The tokens of a HOA text, one at a time, from an offset on.
+mod bytes;
+mod names;
+mod numbers;
+mod quoted;
+mod signs;
+
+use bytes::byte_at;
+use bytes::opens_sign;
+use bytes::opens_word;
+use bytes::skip_blanks;
+use names::alias;
+use names::name;
+use numbers::number;
+use quoted::quoted;
+use signs::body_word;
+ghost use mathlib.Core.Path.{_≡_};
+ghost use lib.ListN.{getD};
+ghost use Rattle.hoa_text.specs.Tokens.{left};
+ghost use Rattle.hoa_text.specs.Grammar.{at};
+ghost use Rattle.hoa_tokens.specs.Answers.{Reads, Skipped, Behind};
+ghost use Rattle.hoa_tokens.specs.Kinds.{Other};
+
+// What stands first at or after an offset. The first number of each is the token's offset.
+pub enum Token {
+    // A word, and its end.
+    Word(usize, usize),
+    // An item name, and the offset of its colon.
+    Item(usize, usize),
+    // A number, its value up to 255, and its end.
+    Number(usize, usize, usize),
+    // A quoted text, and the offset of the quote that ends it.
+    Quoted(usize, usize),
+    // One of `! & | ( ) [ ] { }`.
+    Sign(usize, u8),
+    // `--BODY--`
+    Body(usize),
+    // `--END--`
+    End(usize),
+    // `--ABORT--`
+    Abort(usize),
+    // A token that stands nowhere in the form read here, and its end.
+    Unread(usize, usize),
+    // The end of the text.
+    Over(usize),
+    // No token, and the offset at which that is refused.
+    Broken(usize, usize),
+}
+
+// An offset past the end is the end of the text.
+pub fn next_token(text: &[u8], at: usize) -> Token
+    ensures { λ r. ⌜ Reads (now (text .entry)) at r ⌝ }
+{
+    let start = skip_blanks(text, at);
+    if start >= text.len() {
+        return Token::Over(start);
+    }
+    let byte = text[start];
+    match byte {
+        b'"' => quoted(text, start),
+        b'@' => alias(text, start),
+        b'-' => body_word(text, start),
+        b'0'..=b'9' => number(text, start),
+        _ => other(text, start, byte),
+    }
+}
+
+// A word, an item name, a sign, or no token.
+fn other(text: &[u8], start: usize, byte: u8) -> Token
+    requires { ⌜ Other (now text) start byte ⌝ }
+    ensures { λ r. ⌜ Reads (now (text .entry)) start r ⌝ }
+{
+    if opens_word(byte) {
+        return name(text, start);
+    }
+    if opens_sign(byte) {
+        return Token::Sign(start, byte);
+    }
+    Token::Broken(start, start)
+}
+
+// A byte of the text, and its offset.
+pub struct Head {
+    pub offset: usize,
+    pub byte: u8,
+}
+
+// The first byte at or after an offset that is no blank: 0 at the end of the text.
+pub fn first_byte(text: &[u8], at: usize) -> Head
+    ensures { λ r. ⌜ Skipped (now (text .entry)) at (r .offset) × (r .byte ≡ getD (now (text .entry)) (r .offset) 0) ⌝ }
+{
+    let offset = skip_blanks(text, at);
+    let byte = byte_at(text, offset);
+    Head { offset, byte }
+}
+
+// The offset behind a sign of one byte; `at` where that sign does not stand first.
+pub fn behind(text: &[u8], at: usize, sign: u8) -> usize
+    ensures { λ r. ⌜ Behind (now (text .entry)) at sign r ⌝ }
+{
+    match next_token(text, at) {
+        Token::Sign(offset, byte) => if byte == sign { offset + 1 } else { at },
+        _ => at,
+    }
+}
+
+// The offset at which the first token, or the lack of one, is refused.
+pub fn offset(text: &[u8], from: usize) -> usize
+    ensures { λ r. ⌜ r ≡ at (left (now (text .entry)) from) ⌝ }
+{
+    match next_token(text, from) {
+        Token::Word(offset, _) => offset,
+        Token::Item(offset, _) => offset,
+        Token::Number(offset, _, _) => offset,
+        Token::Quoted(offset, _) => offset,
+        Token::Sign(offset, _) => offset,
+        Token::Body(offset) => offset,
+        Token::End(offset) => offset,
+        Token::Abort(offset) => offset,
+        Token::Unread(offset, _) => offset,
+        Token::Over(offset) => offset,
+        Token::Broken(_, refused) => refused,
+    }
+}

@@ -1,0 +1,51 @@
+-- `Reader::read` meets its contract.
+use mathlib.Core.Path.{ap, ap₂, subst, _∙_}
+use Prim.Native.Nat.{ℕ}
+use denote.Ref.{now}
+use Rattle.clause_variables.specs.declared.sizes.Sizes.{Sizes}
+use Rattle.clause_variables.specs.Numbers.{lastVariable}
+use Rattle.solver_text.specs.Machine.{told, run}
+use Rattle.solver_text.specs.Objection.{Judged}
+use Rattle.solver_text.proofs.CallLaws.{judged-fits, called-read, called-refused}
+use borrow.Author.Needs.{needs}
+use Rattle.solver_text.proofs.Reader.read.Statement.{statement}
+use Rattle.solver_text.proofs.Reader.read.Tie as tie
+
+judge-requires : tie.Need-judge-requires
+judge-requires c κs = search needs
+
+enum-known-z : tie.Need-enum-known-z
+enum-known-z c = search needs
+
+variables-of-requires : tie.Need-variables-of-requires
+variables-of-requires c κs =
+    let a = c .before .before .before .before .before .args in
+    judged-fits _ _ _ _ (subst (Judged (a .reference) (a .n) (a .m) (a .self)) (c .before .z .given .1) (c .before .before .before .judge .ensures))
+
+read-piece-requires : tie.Need-read-piece-requires
+read-piece-requires c κs =
+    let a = c .before .before .before .before .before .before .args in
+    let j = subst (Judged (a .reference) (a .n) (a .m) (a .self)) (c .before .before .z .given .1) (c .before .before .before .before .judge .ensures) in
+    (j .0, c .variables-of .ensures .2)
+
+enum-known-x : tie.Need-enum-known-x
+enum-known-x c = search needs
+
+refused-requires : tie.Need-refused-requires
+refused-requires c κs = search needs
+
+returns : tie.Need-returns
+returns c =
+    let a = c .before .before .before .before .before .before .before .args in
+    let j = subst (Judged (a .reference) (a .n) (a .m) (a .self)) (c .before .before .before .z .given .1) (c .before .before .before .before .before .judge .ensures) in
+    let f = c .before .variables-of .ensures in
+    called-read _ _ _ _ j
+    (c .read-piece .ensures ∙ ap₂ (λ (x y : ℕ). told (run x y (a .self) (now (a .piece)))) (f .0 ∙ ap lastVariable (j .3)) (f .1 ∙ ap (λ (z : Sizes). z .marks) (j .3)))
+
+returns-2 : tie.Need-returns-2
+returns-2 c =
+    let a = c .before .before .before .before .before .before .args in
+    called-refused _ _ _ _ (subst (Judged (a .reference) (a .n) (a .m) (a .self)) (c .before .before .x .given .1) (c .before .before .before .before .judge .ensures)) (c .refused .ensures)
+
+pub read-spec : {M : Type 1} → statement M
+read-spec = tie.close (tie.spec judge-requires enum-known-z variables-of-requires read-piece-requires enum-known-x refused-requires returns returns-2)

@@ -1,0 +1,116 @@
+// The reader of solver text: a state that goes from piece to piece, by value.
+use automaton::Automaton;
+use call::Variables;
+use clause_variables::sizes::Sized;
+use refusals::Refusal;
+use scan::Place;
+use scan::Scan;
+ghost use mathlib.Core.Path.{_≡_};
+ghost use Prim.Native.Nat.{_≤_};
+ghost use Rattle.solver_text.specs.Calls.{Called, InRange, last, kept};
+ghost use Rattle.solver_text.specs.Machine.{fresh, run, end, told, at-rest, answerAt};
+
+mod bytes;
+mod call;
+mod end;
+mod literal;
+mod moves;
+pub mod scan;
+mod verdict;
+
+// What was read so far. `named` has an entry for each step and mark variable, by its number: 0 while it is not named, 1 for
+// true, 2 for false; there is no variable 0.
+pub struct Reader {
+    pub scan: Scan,
+    pub named: [u8; Reader::SLOTS],
+}
+
+pub enum Answer {
+    Accepted,
+    Refused(Refusal),
+}
+
+pub struct Reply {
+    pub answer: Answer,
+    pub reader: Reader,
+}
+
+impl Reader {
+    pub const VARIABLES: usize = Automaton::CANDIDATE_STATES
+        * Automaton::CANDIDATE_STATES
+        * Automaton::LETTERS
+        * (Automaton::SETS + 1);
+
+    pub const SLOTS: usize = Reader::VARIABLES + 1;
+
+    // Nothing is read.
+    pub fn fresh() -> Reader
+        ensures { λ r. ⌜ r ≡ fresh ⌝ }
+    {
+        let scan = moves::unread();
+        Reader {
+            scan,
+            named: [0u8; Reader::SLOTS],
+        }
+    }
+
+    // Reads a piece of the text, of any length. It is refused exactly where every text that begins so is.
+    pub fn read(self, reference: Automaton, n: usize, m: usize, piece: &[u8]) -> Reply
+        ensures { λ e. ⌜ Called reference n m self (told (run (last reference n m) (kept reference n m) self (now (piece .entry)))) e ⌝ }
+    {
+        match call::judge(self, reference, n, m) {
+            Sized::Of(z) => read_piece(self, piece, call::variables_of(z)),
+            Sized::Refused(x) => call::refused(x, self),
+        }
+    }
+
+    // The text ends here.
+    pub fn finish(self, reference: Automaton, n: usize, m: usize) -> Reply
+        ensures { λ e. ⌜ Called reference n m self (told (end (last reference n m) (kept reference n m) self)) e ⌝ }
+    {
+        match call::judge(self, reference, n, m) {
+            Sized::Of(z) => end_text(self, call::variables_of(z)),
+            Sized::Refused(x) => call::refused(x, self),
+        }
+    }
+}
+
+fn read_piece(reader: Reader, piece: &[u8], file: Variables) -> Reply
+    requires { ⌜ InRange reader × (file .kept ≤ 5120) ⌝ }
+    ensures { λ e. ⌜ e ≡ told (run (file .last) (file .kept) reader (now (piece .entry))) ⌝ }
+{
+    let before = reader.scan;
+    let mut named = reader.named;
+    let after = bytes::feed(before, piece, &mut named, file.last, file.kept);
+    replied(after, named)
+}
+
+fn end_text(reader: Reader, file: Variables) -> Reply
+    requires { ⌜ InRange reader × (file .kept ≤ 5120) ⌝ }
+    ensures { λ e. ⌜ e ≡ told (end (file .last) (file .kept) reader) ⌝ }
+{
+    let before = reader.scan;
+    let mut named = reader.named;
+    let after = end::end(before, &mut named, file.last, file.kept);
+    replied(after, named)
+}
+
+fn replied(scan: Scan, named: [u8; Reader::SLOTS]) -> Reply
+    ensures { λ e. ⌜ e ≡ told (at-rest scan named) ⌝ }
+{
+    let answer = answer_at(scan);
+    let reader = Reader { scan, named };
+    Reply { answer, reader }
+}
+
+// 9 and 10, with their offsets.
+fn answer_at(scan: Scan) -> Answer
+    ensures { λ r. ⌜ r ≡ answerAt (scan .place) (scan .at) ⌝ }
+{
+    let place = scan.place;
+    match place {
+        Place::BadForm => Answer::Refused(Refusal::SolverForm(scan.at as usize)),
+        Place::BadLiteral => Answer::Refused(Refusal::Literal(scan.at as usize)),
+        _ => Answer::Accepted,
+    }
+}
