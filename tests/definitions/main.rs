@@ -17,8 +17,8 @@ pub type Room = (String, String);
 // Statements stand at the head of these files of `demands`, and their proofs below.
 const STATEMENTS: [&str; 4] = ["Demand1", "Demand2", "Demand3", "Decks"];
 
-// What is said over lists of calls of the search, and what the clause program is proved to hand over, stand beside them.
-const CLAIMED: [[&str; 3]; 2] = [["search", "Calls", "Searches"], ["hoa_clauses", "Prints", "HandsFile"]];
+// What is said over lists of calls of the search stands beside them.
+const CLAIMED: [[&str; 3]; 1] = [["search", "Calls", "Searches"]];
 
 fn main() {
     let words: Vec<String> = env::args().collect();

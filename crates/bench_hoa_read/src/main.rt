@@ -1,9 +1,9 @@
 // Reads texts of automata again and again, for `bench/run`: standard input holds them in slots of equal length, the argument says how often. Prints how
 // many readings were accepted, and the sum of their states.
-use console::input;
-use console::output;
+use console_input::number;
 use console_numerals::Number;
 use console_places::part::first;
+use console_read::read_input;
 use hoa_read::Answer;
 use libc::STDOUT_FILENO;
 use std::num::wrapping_add_u64;
@@ -21,13 +21,13 @@ fn main() {
         return usage();
     }
     let mut word = io::buffer();
-    let argument = input::number(1, &mut word);
+    let argument = number(1, &mut word);
     let count = argument.number;
     let Number::Of(rounds) = count else {
         return usage();
     };
     let mut texts = [0u8; hoa_read::TEXT];
-    let got = input::read_input(&mut texts);
+    let got = read_input(&mut texts);
     if !got.whole {
         return;
     }
@@ -35,7 +35,7 @@ fn main() {
 }
 
 fn usage() {
-    output::usage(b"bench_hoa_read COUNT < SLOTS");
+    console_print::usage(b"bench_hoa_read COUNT < SLOTS");
 }
 
 fn read_often(texts: &[u8], rounds: u64) -> Tally {

@@ -7,12 +7,12 @@ use lib.IntN.{ℤ}
 use lib.ListN.{length}
 use Rattle.encoding.specs.Positions.{at-position, positions}
 use Rattle.decimal.specs.Wrote.{Wrote}
-use Rattle.clause_variables.specs.declared.sizes.Sizes.{Sizes}
-use Rattle.clause_variables.specs.Numbers.{numberOf}
-use Rattle.clause_list.specs.declared.extent.Extent.{Extent}
+use Rattle.clause_sizes.specs.declared.Sizes.{Sizes}
+use Rattle.clause_sizes.specs.Numbers.{numberOf}
+use Rattle.clause_indices.specs.declared.extent.Extent.{Extent}
 use Rattle.clause_list.specs.Tables.{taskOf}
 use Rattle.clause_list.specs.Position.{Stands, one, none}
-use Rattle.clause_list.specs.Indices.{ExtentOf}
+use Rattle.clause_indices.specs.Indices.{ExtentOf}
 use Rattle.clause_list.specs.Next.{next-clause}
 use Rattle.clause_list.specs.Following.{next-skip, next-here, next-end}
 use Rattle.clause_list.specs.Handing.{Hands, clause, nothing}

@@ -11,12 +11,12 @@ use lib.Pow.{pow-pos}
 use Rattle.encoding.specs.Clauses.{_∪_, only}
 use Rattle.encoding.specs.Numbering.{split}
 use Rattle.decimal.specs.Wrote.{Wrote}
-use Rattle.clause_variables.specs.declared.sizes.Sizes.{Sizes}
-use Rattle.clause_variables.specs.Sizes.{Fitting}
-use Rattle.clause_list.specs.declared.indices.Indices.{Indices}
+use Rattle.clause_sizes.specs.declared.Sizes.{Sizes}
+use Rattle.clause_sizes.specs.Sizes.{Fitting}
+use Rattle.clause_indices.specs.declared.Indices.{Indices}
 use Rattle.clause_list.specs.declared.digits.Marking.{Marking}
 use Rattle.clause_list.specs.declared.digits.Transition.{Transition}
-use Rattle.clause_list.specs.Indices.{Within, premiseOf, successors, extensionIndices}
+use Rattle.clause_indices.specs.Indices.{Within, premiseOf, successors, extensionIndices}
 use Rattle.clause_list.specs.Groups.{Successive, successorOf, extensionOf}
 use Rattle.clause_list.specs.Tables.{StepsWithin, Tables}
 use Rattle.clause_list.specs.Digits.{MarkingOf, TransitionOf, closureIndices}

@@ -1,10 +1,9 @@
--- A clause that stands at a position, the test of group 4, and how many positions there are.
+-- A clause that stands at a position, and the test of group 4.
 use mathlib.Core.Path.{_≡_, refl, sym, ap, _∙_, subst}
 use mathlib.Core.Logic.{_≢_}
 use mathlib.Core.Bool.{Bool, true, false, not, xor}
 use mathlib.Core.List.{List, [], _∷_}
-use Prim.Native.Nat.{ℕ, _+_, _-_, _*_, _/_, _%_, _^_, _≤_, _<_}
-use native.Mathlib.Nat.{mul-le-mul}
+use Prim.Native.Nat.{ℕ, _-_, _/_, _%_, _^_, _<_}
 use native.Mathlib.Omega.{arith}
 use borrow.Author.Tests.{eq-eqb, ne-eqb}
 use lib.Dec.{eqb}
@@ -15,14 +14,13 @@ use Rattle.encoding.specs.Numbering.{split}
 use Rattle.encoding.specs.Loops.{each-length}
 use Rattle.decimal.specs.Wrote.{Wrote}
 use Rattle.decimal.specs.Writing.{wrote-length}
-use Rattle.clause_variables.specs.declared.sizes.Sizes.{Sizes}
-use Rattle.clause_variables.specs.Sizes.{Fitting}
-use Rattle.clause_variables.specs.Limits.{candidate-subsets-le, reference-subsets-le}
-use Rattle.clause_variables.specs.Numbers.{numberOf}
-use Rattle.clause_list.specs.declared.extent.Extent.{Extent}
+use Rattle.clause_sizes.specs.declared.Sizes.{Sizes}
+use Rattle.clause_sizes.specs.Sizes.{Fitting}
+use Rattle.clause_sizes.specs.Numbers.{numberOf}
+use Rattle.clause_indices.specs.declared.extent.Extent.{Extent}
 use Rattle.clause_list.specs.Groups.{totalityOf}
 use Rattle.clause_list.specs.Position.{Stands, one, none, oneFull}
-use Rattle.clause_list.specs.Indices.{ExtentOf}
+use Rattle.clause_indices.specs.Indices.{ExtentOf}
 
 -- a clause that is written, and has a literal
 pub stands : {A : Type 0} {d e c : List A} {cs : List (List A)} {r : ℕ} → cs ≡ c ∷ [] → 0 < length c → Wrote d 0 c e r → Stands d cs e r
@@ -58,62 +56,3 @@ module _ {z : Sizes} (f : Fitting z) (candidate reference : ℕ) where
   pub candidate-lacks : candidate ≢ z .candidate .subsets - 1 → eqb reference (z .reference .subsets - 1) ≡ oneFull z candidate reference
   candidate-lacks e =
       rw (f .reference-subsets, ne-eqb candidate (2 ^ z .candidate .sets - 1) (λ q. e (q ∙ ap (λ x. x - 1) (sym (f .candidate-subsets))))) (xor-false _)
-
--- ---- the numbers of positions
-
-module _ {z : Sizes} (f : Fitting z) where
-  abbrev n : ℕ
-  n = z .candidate .states
-
-  abbrev r : ℕ
-  r = z .reference .states
-
-  abbrev L : ℕ
-  L = z .letters
-
-  abbrev M : ℕ
-  M = z .candidate .subsets
-
-  abbrev S : ℕ
-  S = z .reference .subsets
-
-  pub square-le : n * n ≤ 64
-  square-le = mul-le-mul (f .n-le) (f .n-le)
-
-  pub pairs-le : n * n * r ≤ 1024
-  pairs-le = mul-le-mul square-le (f .r-le)
-
-  pub moves-le : n * n * r * L ≤ 16384
-  moves-le = mul-le-mul pairs-le (f .letters-le)
-
-  pub two-le : M * S ≤ 256
-  two-le = mul-le-mul (candidate-subsets-le f) (reference-subsets-le f)
-
-  pub markings-le : M * S * M ≤ 4096
-  markings-le = mul-le-mul two-le (candidate-subsets-le f)
-
-  pub product-le : n * n * r * L * (M * S * M) ≤ 67108864
-  product-le = mul-le-mul moves-le markings-le
-
-  pub states-le : n * r ≤ 128
-  states-le = mul-le-mul (f .n-le) (f .r-le)
-
-  pub third-le : n * r * (n * n * r * L * (M * S * M)) ≤ 8589934592
-  third-le = mul-le-mul states-le product-le
-
-  pub first-le : n * L ≤ 128
-  first-le = mul-le-mul (f .n-le) (f .letters-le)
-
-  pub extent-is : ExtentOf z (record {
-    first = n * L;
-    second = 1 + n * n * r * L;
-    third = n * r * (n * n * r * L * (M * S * M));
-    all = n * L + (1 + n * n * r * L + (n * r * (n * n * r * L * (M * S * M)) + n * n * r * L * (M * S * M)));
-  })
-  extent-is = record {
-    first-is = refl;
-    second-is = refl;
-    third-is = rw (f .candidate-subsets, f .reference-subsets) (omega arith);
-    all-is = rw (f .candidate-subsets, f .reference-subsets) (omega arith);
-    all-le = omega (arith, first-le, moves-le, third-le, product-le);
-  }

@@ -4,11 +4,11 @@ use mathlib.Core.List.{List}
 use Prim.Native.Nat.{ℕ, _+_, _*_, _/_, _%_, _^_, _<_}
 use lib.ListN.{getD}
 use Rattle.encoding.specs.Numbering.{split}
-use Rattle.clause_variables.specs.declared.sizes.Sizes.{Sizes}
-use Rattle.clause_list.specs.declared.indices.Indices.{Indices}
+use Rattle.clause_sizes.specs.declared.Sizes.{Sizes}
+use Rattle.clause_indices.specs.declared.Indices.{Indices}
 use Rattle.clause_list.specs.declared.digits.Marking.{Marking}
 use Rattle.clause_list.specs.declared.digits.Transition.{Transition}
-use Rattle.clause_list.specs.Indices.{Within, extensions, closures, extensionIndices}
+use Rattle.clause_indices.specs.Indices.{Within, extensions, closures, extensionIndices}
 use Rattle.clause_list.specs.Tables.{Tables}
 
 module _ (z : Sizes) where

@@ -5,10 +5,10 @@ use Prim.Native.Nat.{ℕ, _<_}
 use lib.IntN.{ℤ, pos, negℤ}
 use Rattle.encoding.specs.Variables.{step, path}
 use Rattle.encoding.specs.Clauses.{each, _∪_}
-use Rattle.clause_variables.specs.declared.sizes.Sizes.{Sizes}
-use Rattle.clause_variables.specs.Numbers.{numberOf}
-use Rattle.clause_list.specs.declared.indices.Indices.{Indices}
-use Rattle.clause_list.specs.Indices.{premiseOf}
+use Rattle.clause_sizes.specs.declared.Sizes.{Sizes}
+use Rattle.clause_sizes.specs.Numbers.{numberOf}
+use Rattle.clause_indices.specs.declared.Indices.{Indices}
+use Rattle.clause_indices.specs.Indices.{premiseOf}
 
 -- the steps from q by l to the first k states
 abbrev pub totalityOf : Sizes → (q l k : ℕ) → List ℤ

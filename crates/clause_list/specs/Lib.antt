@@ -1,6 +1,5 @@
 pub mod Tables
 pub mod Measured
-pub mod Indices
 pub mod Groups
 pub mod Digits
 pub mod Position

@@ -5,11 +5,11 @@ use Rattle.automaton.specs.declared.Automaton.{Automaton}
 use Rattle.automaton.specs.Value.{Valid}
 use Rattle.automaton.specs.View.{view}
 use Rattle.encoding.specs.Variables.{base, base-number}
-use Rattle.clause_variables.specs.declared.sizes.Sizes.{Sizes}
-use Rattle.clause_variables.specs.Sizes.{Dimensioned, sizesOf}
-use Rattle.clause_variables.specs.Measured.{Measured}
-use Rattle.clause_variables.specs.Numbers.{counted, numberOf}
-use Rattle.clause_variables.specs.Limits.{sizes-fit}
+use Rattle.clause_sizes.specs.declared.Sizes.{Sizes}
+use Rattle.clause_sizes.specs.Sizes.{Dimensioned, sizesOf}
+use Rattle.clause_sizes.specs.Measured.{Measured}
+use Rattle.clause_sizes.specs.Numbers.{counted, numberOf}
+use Rattle.clause_sizes.specs.Limits.{sizes-fit}
 use Rattle.clause_list.specs.Tables.{tabled, taskOf, Tables}
 
 tables-fit : {a : Automaton} {n m : ℕ} → Valid a → Dimensioned n m → Tables (sizesOf a n m) (a .destinations) (a .marks)

@@ -13,11 +13,11 @@ use Rattle.encoding.specs.MarkSets.{set-of-has}
 use Rattle.encoding.specs.Base.{exactly-one-full}
 use Rattle.encoding.specs.Positions.{at₁, successor-at, at₃, at₄}
 use Rattle.decimal.specs.Wrote.{Wrote}
-use Rattle.clause_variables.specs.declared.sizes.Sizes.{Sizes}
-use Rattle.clause_variables.specs.Numbers.{numberOf}
+use Rattle.clause_sizes.specs.declared.Sizes.{Sizes}
+use Rattle.clause_sizes.specs.Numbers.{numberOf}
 use Rattle.clause_list.specs.Tables.{tabled, taskOf, Tables}
 use Rattle.clause_list.specs.Groups.{totalityOf, initialOf, successorOf, extensionOf}
-use Rattle.clause_list.specs.Indices.{premiseOf, extensions, closures, extensionIndices}
+use Rattle.clause_indices.specs.Indices.{premiseOf, extensions, closures, extensionIndices}
 use Rattle.clause_list.specs.Digits.{closureIndices, extension-within, closure-within}
 
 -- the one clause of `cs` is written at the start of d, and r is its length; or `cs` is empty, nothing is written, and r is 0

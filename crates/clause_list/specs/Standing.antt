@@ -4,12 +4,12 @@ use mathlib.Core.List.{List, [], _∷_}
 use Prim.Native.Nat.{ℕ, _-_, _/_, _%_, _≤_, _<_}
 use borrow.Author.Tests.{lt-ltb, le-ltb}
 use Rattle.encoding.specs.Positions.{then-at, at₂, at₃, at₄, at-position}
-use Rattle.clause_variables.specs.declared.sizes.Sizes.{Sizes}
-use Rattle.clause_variables.specs.Numbers.{numberOf}
-use Rattle.clause_list.specs.declared.extent.Extent.{Extent}
+use Rattle.clause_sizes.specs.declared.Sizes.{Sizes}
+use Rattle.clause_sizes.specs.Numbers.{numberOf}
+use Rattle.clause_indices.specs.declared.extent.Extent.{Extent}
 use Rattle.clause_list.specs.Tables.{taskOf, Tables}
 use Rattle.clause_list.specs.Groups.{totalityOf, initialOf}
-use Rattle.clause_list.specs.Indices.{extensions, closures, ExtentOf}
+use Rattle.clause_indices.specs.Indices.{extensions, closures, ExtentOf}
 use Rattle.clause_list.specs.Position.{successorAt, extensionAt, closureAt, at₁-is, initial-is, successor-is, at₃-is, at₄-is}
 
 -- two loops one after the other

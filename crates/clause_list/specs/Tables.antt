@@ -6,8 +6,8 @@ use Rattle.meaning.specs.Automata.{Aut}
 use Rattle.meaning.specs.BitSet.{has}
 use Rattle.meaning.specs.Tests.{all}
 use Rattle.encoding.specs.Variables.{Task, base}
-use Rattle.clause_variables.specs.declared.sizes.Sizes.{Sizes}
-use Rattle.clause_variables.specs.Sizes.{Fitting}
+use Rattle.clause_sizes.specs.declared.Sizes.{Sizes}
+use Rattle.clause_sizes.specs.Sizes.{Fitting}
 
 abbrev pub tabled : Sizes → ℕ → List ℕ → List ℕ → Aut
 tabled z start destinations marks = record {

@@ -1,7 +1,7 @@
 // A position taken apart digit by digit, the last fastest.
 use automaton::states::ReferenceState;
-use clause_variables::sizes::Sizes;
-ghost use Rattle.clause_variables.specs.Sizes.{Fitting};
+use clause_sizes::Sizes;
+ghost use Rattle.clause_sizes.specs.Sizes.{Fitting};
 ghost use Rattle.clause_list.specs.Digits.{MarkingOf, TransitionOf};
 
 // The three sets of marks of a position, and what is left of it.

@@ -1,24 +1,24 @@
 // Groups 1, 2 and 3: one clause of each, written to the start of a buffer.
-use crate::indices::Indices;
-use crate::premise::premise;
 use automaton::states::CandidateState;
 use automaton::states::ReferenceState;
-use clause_variables::literals::negative;
-use clause_variables::literals::positive;
+use clause_indices::Indices;
+use clause_indices::premise::premise;
+use clause_literals::negative;
+use clause_literals::positive;
+use clause_sizes::Sizes;
 use clause_variables::numbers::path_number;
 use clause_variables::numbers::step_number;
-use clause_variables::sizes::Sizes;
 ghost use Prim.Native.Nat.{_^_, _≤_, _<_};
 ghost use lib.ListN.{length};
 ghost use Rattle.decimal.specs.Wrote.{Wrote};
-ghost use Rattle.clause_variables.specs.Sizes.{Fitting};
-ghost use Rattle.clause_list.specs.Indices.{Within};
+ghost use Rattle.clause_sizes.specs.Sizes.{Fitting};
+ghost use Rattle.clause_indices.specs.Indices.{Within, clauseRoom};
 ghost use Rattle.clause_list.specs.Groups.{Successive, totalityOf, initialOf, successorOf, extensionOf};
 
 // Group 1: the steps from q by l.
 pub fn totality(z: Sizes, q: CandidateState, l: usize, out: &mut [i32]) -> usize
     requires { ⌜ Fitting z ⌝ }
-    requires { ⌜ (q .0 < z .candidate .states) × (l < z .letters) × (8 ≤ length (now out)) ⌝ }
+    requires { ⌜ (q .0 < z .candidate .states) × (l < z .letters) × (clauseRoom ≤ length (now out)) ⌝ }
     ensures { λ r. ⌜ Wrote (now (out .entry)) 0 (totalityOf z (q .0) l (z .candidate .states)) (now (out .exit)) r ⌝ }
 {
     let mut p: usize = 0;
@@ -32,7 +32,7 @@ pub fn totality(z: Sizes, q: CandidateState, l: usize, out: &mut [i32]) -> usize
 // Group 2, its first clause.
 pub fn initial(z: Sizes, start: ReferenceState, out: &mut [i32]) -> usize
     requires { ⌜ Fitting z ⌝ }
-    requires { ⌜ (start .0 < z .reference .states) × (8 ≤ length (now out)) ⌝ }
+    requires { ⌜ (start .0 < z .reference .states) × (clauseRoom ≤ length (now out)) ⌝ }
     ensures { λ r. ⌜ Wrote (now (out .entry)) 0 (initialOf z (start .0)) (now (out .exit)) r ⌝ }
 {
     out[0] = positive(path_number(z, CandidateState(0), start, CandidateState(0), start, 0, 0));
@@ -51,7 +51,7 @@ pub fn successor(
 ) -> usize
     requires { ⌜ Fitting z ⌝ }
     requires { ⌜ Successive z (q .0) (p .0) (u .0) l (w .0) ⌝ }
-    requires { ⌜ 8 ≤ length (now out) ⌝ }
+    requires { ⌜ clauseRoom ≤ length (now out) ⌝ }
     ensures { λ r. ⌜ Wrote (now (out .entry)) 0 (successorOf z (q .0) (p .0) (u .0) l (w .0)) (now (out .exit)) r ⌝ }
 {
     out[0] = negative(path_number(z, q, u, q, u, 0, 0));
@@ -64,7 +64,7 @@ pub fn successor(
 pub fn extension(z: Sizes, x: Indices, w: ReferenceState, f: usize, out: &mut [i32]) -> usize
     requires { ⌜ Fitting z ⌝ }
     requires { ⌜ Within z x × (w .0 < z .reference .states) × (f < 2 ^ z .reference .sets) ⌝ }
-    requires { ⌜ 8 ≤ length (now out) ⌝ }
+    requires { ⌜ clauseRoom ≤ length (now out) ⌝ }
     ensures { λ r. ⌜ Wrote (now (out .entry)) 0 (extensionOf z x (w .0) f) (now (out .exit)) r ⌝ }
 {
     let at = premise(z, x, out);

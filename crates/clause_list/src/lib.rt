@@ -1,9 +1,7 @@
 // The clauses of a file by position: how many positions there are, and the next clause from a position on. For the crates above: their callers have tested
 // the sizes and the tables.
 mod digits;
-pub mod extent;
 mod groups;
 pub mod indices;
 pub mod next;
 mod position;
-pub mod premise;

@@ -1,14 +1,14 @@
 // The next clause from a position on.
-use crate::extent::Extent;
 use crate::position::clause_at;
 use automaton::Automaton;
 use automaton::states::ReferenceState;
-use clause_variables::sizes::Sizes;
+use clause_indices::extent::Extent;
+use clause_sizes::Sizes;
 ghost use Prim.Native.Nat.{_≤_, _<_};
 ghost use lib.ListN.{length};
-ghost use Rattle.clause_variables.specs.Numbers.{numberOf};
+ghost use Rattle.clause_sizes.specs.Numbers.{numberOf};
 ghost use Rattle.clause_list.specs.Tables.{taskOf, Tables};
-ghost use Rattle.clause_list.specs.Indices.{ExtentOf};
+ghost use Rattle.clause_indices.specs.Indices.{ExtentOf, clauseRoom};
 ghost use Rattle.clause_list.specs.Next.{«next-clause»};
 ghost use Rattle.clause_list.specs.Handing.{Hands};
 
@@ -29,7 +29,7 @@ pub fn next_clause(
     out: &mut [i32],
 ) -> Next
     requires { ⌜ Tables z (now destinations) (now marks) × (start .0 < z .reference .states) ⌝ }
-    requires { ⌜ ExtentOf z g × (8 ≤ length (now out)) ⌝ }
+    requires { ⌜ ExtentOf z g × (clauseRoom ≤ length (now out)) ⌝ }
     ensures { λ r. ⌜ Hands («next-clause» (taskOf z (start .0) (now (destinations .entry)) (now (marks .entry))) (numberOf z) from) (now (out .entry)) (now (out .exit)) r ⌝ }
 {
     let mut x = from;

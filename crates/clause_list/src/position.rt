@@ -1,27 +1,27 @@
 // The clause at a position, where there is one.
 use crate::digits::marking_at;
 use crate::digits::transition_at;
-use crate::extent::Extent;
 use crate::groups::extension;
 use crate::groups::initial;
 use crate::groups::successor;
 use crate::groups::totality;
-use crate::indices::Indices;
-use crate::indices::entry;
 use crate::indices::extension_indices;
-use crate::premise::premise;
 use automaton::Automaton;
 use automaton::states::CandidateState;
 use automaton::states::ReferenceState;
-use clause_variables::sizes::Sizes;
+use clause_indices::Indices;
+use clause_indices::entry;
+use clause_indices::extent::Extent;
+use clause_indices::premise::premise;
+use clause_sizes::Sizes;
 ghost use mathlib.Core.Path.{_≡_};
 ghost use Prim.Native.Nat.{_≤_, _<_};
 ghost use lib.ListN.{length};
 ghost use Rattle.encoding.specs.Positions.{«at-position»};
-ghost use Rattle.clause_variables.specs.Sizes.{Fitting};
-ghost use Rattle.clause_variables.specs.Numbers.{numberOf};
+ghost use Rattle.clause_sizes.specs.Sizes.{Fitting};
+ghost use Rattle.clause_sizes.specs.Numbers.{numberOf};
 ghost use Rattle.clause_list.specs.Tables.{StepsWithin, taskOf, Tables};
-ghost use Rattle.clause_list.specs.Indices.{extensions, closures, successors, ExtentOf};
+ghost use Rattle.clause_indices.specs.Indices.{extensions, closures, successors, ExtentOf, clauseRoom};
 ghost use Rattle.clause_list.specs.Digits.{closureIndices};
 ghost use Rattle.decimal.specs.Wrote.{Wrote};
 ghost use Rattle.clause_list.specs.Position.{Stands, successorAt, extensionAt, closureAt, oneFull};
@@ -37,7 +37,7 @@ pub fn clause_at(
     out: &mut [i32],
 ) -> usize
     requires { ⌜ Tables z (now destinations) (now marks) × (start .0 < z .reference .states) ⌝ }
-    requires { ⌜ ExtentOf z g × (x < g .all) × (8 ≤ length (now out)) ⌝ }
+    requires { ⌜ ExtentOf z g × (x < g .all) × (clauseRoom ≤ length (now out)) ⌝ }
     ensures { λ r. ⌜ Stands (now (out .entry)) («at-position» (taskOf z (start .0) (now (destinations .entry)) (now (marks .entry))) (numberOf z) x) (now (out .exit)) r ⌝ }
 {
     if x < g.first {
@@ -60,7 +60,7 @@ pub fn clause_at(
 // Group 2 after its first clause.
 fn successor_at(z: Sizes, destinations: &[u8; Automaton::CELLS], x: usize, out: &mut [i32]) -> usize
     requires { ⌜ Fitting z × StepsWithin z (now destinations) ⌝ }
-    requires { ⌜ (x < successors z) × (8 ≤ length (now out)) ⌝ }
+    requires { ⌜ (x < successors z) × (clauseRoom ≤ length (now out)) ⌝ }
     ensures { λ r. ⌜ Wrote (now (out .entry)) 0 (successorAt z (now (destinations .entry)) x) (now (out .exit)) r ⌝ }
 {
     let a = transition_at(z, x);
@@ -80,7 +80,7 @@ fn extension_at(
     out: &mut [i32],
 ) -> usize
     requires { ⌜ Tables z (now destinations) (now marks) ⌝ }
-    requires { ⌜ (x < extensions z) × (8 ≤ length (now out)) ⌝ }
+    requires { ⌜ (x < extensions z) × (clauseRoom ≤ length (now out)) ⌝ }
     ensures { λ r. ⌜ Wrote (now (out .entry)) 0 (extensionAt z (now (destinations .entry)) (now (marks .entry)) x) (now (out .exit)) r ⌝ }
 {
     let indices = extension_indices(z, x);
@@ -99,7 +99,7 @@ fn closure_at(
     out: &mut [i32],
 ) -> usize
     requires { ⌜ Tables z (now destinations) (now marks) ⌝ }
-    requires { ⌜ (x < closures z) × (8 ≤ length (now out)) ⌝ }
+    requires { ⌜ (x < closures z) × (clauseRoom ≤ length (now out)) ⌝ }
     ensures { λ r. ⌜ Stands (now (out .entry)) (closureAt z (now (destinations .entry)) (now (marks .entry)) x) (now (out .exit)) r ⌝ }
 {
     let indices = closure_indices(z, destinations, x);

@@ -7,13 +7,14 @@ use lib.IntN.{ℤ}
 use lib.ListN.{length}
 use Rattle.automaton.specs.declared.Automaton.{Automaton}
 use Rattle.decimal.specs.Writing.{wrote-length}
-use Rattle.clause_variables.specs.declared.sizes.Sizes.{Sizes}
-use Rattle.clause_variables.specs.Numbers.{numberOf}
+use Rattle.clause_sizes.specs.declared.Sizes.{Sizes}
+use Rattle.clause_sizes.specs.Numbers.{numberOf}
 use Rattle.clause_list.specs.declared.next.Next.{Next}
-use Rattle.clause_variables.specs.Measured.{Measured}
+use Rattle.clause_sizes.specs.Measured.{Measured}
 use Rattle.clause_list.specs.Tables.{taskOf}
 use Rattle.clause_list.specs.Next.{next-clause}
 use Rattle.clause_list.specs.Handing.{Hands, clause, nothing}
+use Rattle.clause_indices.specs.Indices.{clauseRoom}
 use Rattle.clause_step.specs.declared.Answer.{Answer}
 use Rattle.clause_step.specs.declared.Answer.the-variants as answer
 use Rattle.clause_step.specs.declared.Handed.{Handed}
@@ -47,7 +48,7 @@ module _ {a : Automaton} {z : Sizes} (w : Measured a z) (x : ℕ) {d e : List �
       go (nothing f v k) = ap length v
 
 -- the step's answer, where nothing is turned down
-pub stepped : (a : Automaton) (n m x : ℕ) (d e : List ℤ) (r : Handed) → Accepted 8 (length d) a n m x → StepFound a n m x d e (r .answer) (r .position)
+pub stepped : (a : Automaton) (n m x : ℕ) (d e : List ℤ) (r : Handed) → Accepted clauseRoom (length d) a n m x → StepFound a n m x d e (r .answer) (r .position)
     → Stepped a n m x d e r
 stepped a n m x d e r k f = go (r .answer) f
   where

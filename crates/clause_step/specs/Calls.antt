@@ -10,6 +10,7 @@ use Rattle.automaton.specs.declared.Automaton.{Automaton}
 use Rattle.refusals.specs.declared.Refusal.{Refusal}
 use Rattle.automaton.specs.View.{view}
 use Rattle.encoding.specs.Clauses.{base-file}
+use Rattle.clause_indices.specs.Indices.{clauseRoom}
 use Rattle.clause_step.specs.declared.Answer.{Answer}
 use Rattle.clause_step.specs.declared.Answer.the-variants.{Written, Ended, Refused}
 use Rattle.clause_step.specs.declared.Handed.{Handed}
@@ -60,4 +61,4 @@ in-order (c ∷ cs) (suc k) = some c ∷ in-order cs k
 -- what the clause step does over a whole list of calls
 pub record HandsOut (a : Automaton) (n m : ℕ) (cs : List Call) : Type 0 where
   pub answers : all-said cs ≡ in-order (base-file (view a) n m) (length (all-said cs))
-  pub refused : RefusedShort 8 cs
+  pub refused : RefusedShort clauseRoom cs

@@ -11,8 +11,9 @@ use Rattle.automaton.specs.Value.{Valid}
 use Rattle.automaton.specs.View.{view}
 use Rattle.encoding.specs.Variables.{Task, Var, base, base-number}
 use Rattle.decimal.specs.Writing.{wrote-front}
-use Rattle.clause_variables.specs.Sizes.{Dimensioned}
+use Rattle.clause_sizes.specs.Sizes.{Dimensioned}
 use Rattle.clause_list.specs.Next.{Found, clauses-from}
+use Rattle.clause_indices.specs.Indices.{clauseRoom}
 use Rattle.clause_list.specs.Following.{First, next-first, from-start, position-of}
 use Rattle.clause_step.specs.declared.Answer.{Answer}
 use Rattle.clause_step.specs.declared.Answer.the-variants.{Written, Ended, Refused}
@@ -50,7 +51,7 @@ module _ (a : Automaton) (n m : ℕ) where
       one-more x (c .result .answer) (c .result .position) (c .before) (c .after) (all-said cs) s (answers-from (c .result .position) cs k)
 
   -- one call, for the lemma on refusals
-  stays : Valid a → Dimensioned n m → (x : ℕ) (d e : List ℤ) (b : Answer) (y : ℕ) → x ≤ last-position → StepAnswers a n m x d e b y → Stays 8 x d e b y
+  stays : Valid a → Dimensioned n m → (x : ℕ) (d e : List ℤ) (b : Answer) (y : ℕ) → x ≤ last-position → StepAnswers a n m x d e b y → Stays clauseRoom x d e b y
   stays v i x d e (Written k) y h (ok, (c, f, w)) = subst (λ f. position-of T num f ≤ last-position) f (stays-in-range v i x h)
   stays v i x d e Ended y h (ok, (f, w)) = subst (λ f. position-of T num f ≤ last-position) f (stays-in-range v i x h)
   stays v i x d e (Refused f) y h (t, p, w) = (turned-down-short v i h t, p, w)

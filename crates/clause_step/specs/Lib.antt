@@ -4,7 +4,3 @@ pub mod Range
 pub mod Calls
 pub mod Refusals
 pub mod HandsOut
-pub mod Sums
-pub mod FullPairs
-pub mod ClosureCount
-pub mod Header

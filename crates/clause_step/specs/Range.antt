@@ -10,7 +10,7 @@ use Rattle.automaton.specs.View.{view}
 use Rattle.bits.specs.Powers.{power-le}
 use Rattle.encoding.specs.Variables.{base, base-number}
 use Rattle.encoding.specs.Positions.{positions}
-use Rattle.clause_variables.specs.Sizes.{Dimensioned}
+use Rattle.clause_sizes.specs.Sizes.{Dimensioned}
 use Rattle.clause_list.specs.Following.{position-of, next-le}
 use Rattle.clause_step.specs.Step.{last-position, found-from}
 

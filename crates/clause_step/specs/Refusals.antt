@@ -10,7 +10,7 @@ use Rattle.automaton.specs.declared.Automaton.{Automaton}
 use Rattle.refusals.specs.declared.Code.{Code}
 use Rattle.refusals.specs.declared.Refusal.{Refusal}
 use Rattle.automaton.specs.Value.{Valid}
-use Rattle.clause_variables.specs.Sizes.{Dimensioned}
+use Rattle.clause_sizes.specs.Sizes.{Dimensioned}
 use Rattle.clause_step.specs.declared.Answer.{Answer}
 use Rattle.clause_step.specs.declared.Answer.the-variants.{Written, Ended, Refused}
 use Rattle.clause_step.specs.declared.Handed.{Handed}

@@ -5,11 +5,11 @@ use Prim.Native.Nat.{ℕ, _≤_}
 use Rattle.automaton.specs.declared.Automaton.{Automaton}
 use Rattle.refusals.specs.declared.Code.{Code}
 use Rattle.refusals.specs.declared.Refusal.{Refusal}
-use Rattle.clause_variables.specs.declared.sizes.Sizes.{Sizes}
-use Rattle.clause_variables.specs.Numbers.{numberOf}
-use Rattle.clause_variables.specs.Sizes as sizes
-use Rattle.clause_variables.specs.Sizes.{Refuses}
-use Rattle.clause_variables.specs.Measured.{Measured}
+use Rattle.clause_sizes.specs.declared.Sizes.{Sizes}
+use Rattle.clause_sizes.specs.Numbers.{numberOf}
+use Rattle.clause_sizes.specs.Sizes as sizes
+use Rattle.clause_sizes.specs.Sizes.{Refuses}
+use Rattle.clause_sizes.specs.Measured.{Measured}
 use Rattle.clause_list.specs.Tables.{taskOf}
 use Rattle.clause_list.specs.Measured.{measured-task, measured-number}
 use Rattle.clause_list.specs.Next.{next-clause}

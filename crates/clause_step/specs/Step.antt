@@ -14,8 +14,9 @@ use Rattle.automaton.specs.Value.{Valid}
 use Rattle.automaton.specs.View.{view}
 use Rattle.encoding.specs.Variables.{base, base-number}
 use Rattle.decimal.specs.Wrote.{Wrote}
-use Rattle.clause_variables.specs.Sizes.{Dimensioned}
+use Rattle.clause_sizes.specs.Sizes.{Dimensioned}
 use Rattle.clause_list.specs.Next.{Found, handed, ended, next-clause}
+use Rattle.clause_indices.specs.Indices.{clauseRoom}
 use Rattle.clause_step.specs.declared.Answer.{Answer}
 use Rattle.clause_step.specs.declared.Answer.the-variants.{Written, Ended, Refused}
 use Rattle.clause_step.specs.declared.Handed.{Handed}
@@ -31,6 +32,10 @@ abbrev pub last-position : ℕ
 last-position = 8_657_059_969
 
 -- ---- what is turned down, and the number and values that are then returned
+
+-- the room of a line, as `clauseRoom` is that of a clause: "Buffers: .. one clause line 80 bytes"
+abbrev pub lineRoom : ℕ
+lineRoom = 80
 
 -- "Order: 13 .., 4 for handed values, 8": a buffer has `given` places of the `needed`
 pub data TurnedDown (needed given : ℕ) (a : Automaton) (n m x : ℕ) : Refusal → Option Code → Type 0 where
@@ -65,9 +70,9 @@ module _ (a : Automaton) (n m x : ℕ) (d e : List ℤ) where
   StepFound (Refused f) y = ⊥
 
   abbrev pub StepAnswers : Answer → (y : ℕ) → Type 0
-  StepAnswers (Written k) y = Accepted 8 (length d) a n m x × StepFound (Written k) y
-  StepAnswers Ended y = Accepted 8 (length d) a n m x × StepFound Ended y
-  StepAnswers (Refused f) y = TurnedDown 8 (length d) a n m x f (returned (Refused f)) × (y ≡ x) × (e ≡ d)
+  StepAnswers (Written k) y = Accepted clauseRoom (length d) a n m x × StepFound (Written k) y
+  StepAnswers Ended y = Accepted clauseRoom (length d) a n m x × StepFound Ended y
+  StepAnswers (Refused f) y = TurnedDown clauseRoom (length d) a n m x f (returned (Refused f)) × (y ≡ x) × (e ≡ d)
 
   abbrev pub Stepped : Handed → Type 0
   Stepped r = StepAnswers (r .answer) (r .position)

@@ -1,19 +1,18 @@
-// The clause file, handed out: its clauses one by one, and its header.
+// The clause file, handed out clause by clause.
 use automaton::Automaton;
 use automaton::states::ReferenceState;
-use clause_list::extent::extent_of;
+use clause_indices::extent::extent_of;
 use clause_list::next::next_clause;
-use clause_variables::sizes::Sized;
-use clause_variables::sizes::Sizes;
-use clause_variables::sizes::measure;
+use clause_sizes::Sized;
+use clause_sizes::Sizes;
+use clause_sizes::measure;
 use refusals::Refusal;
 ghost use mathlib.Core.Path.{_≡_};
 ghost use Prim.Native.Nat.{_≤_};
 ghost use lib.ListN.{length};
-ghost use Rattle.clause_variables.specs.Measured.{Measured};
+ghost use Rattle.clause_sizes.specs.Measured.{Measured};
+ghost use Rattle.clause_indices.specs.Indices.{clauseRoom};
 ghost use Rattle.clause_step.specs.Step.{«fresh-position», Stepped, StepFound};
-
-pub mod header;
 
 // The literals that the longest clause has.
 pub const CLAUSE: usize = 8;
@@ -74,7 +73,7 @@ pub fn step(reference: Automaton, n: usize, m: usize, position: u64, clause: &mu
 // Where all is in order: z are the file's sizes.
 fn find(reference: Automaton, z: Sizes, position: u64, clause: &mut [i32]) -> Handed
     requires { ⌜ Measured reference z ⌝ }
-    requires { ⌜ 8 ≤ length (now clause) ⌝ }
+    requires { ⌜ clauseRoom ≤ length (now clause) ⌝ }
     ensures { λ r. ⌜ StepFound reference (z .candidate .states) (z .candidate .sets) position (now (clause .entry)) (now (clause .exit)) (r .answer) (r .position) ⌝ }
 {
     let destinations = reference.destinations;

@@ -1,27 +1,23 @@
--- The answers of `line` and `lines`, case by case.
-use mathlib.Core.Path.{_≡_, sym, _∙_, subst, subst₂}
+-- The answers of `lines`, case by case.
+use mathlib.Core.Path.{_≡_, subst, subst₂}
 use mathlib.Core.Logic.{_≢_}
 use mathlib.Core.List.{List}
 use Prim.Native.Nat.{ℕ}
 use native.Mathlib.Omega.{arith}
 use lib.ListN.{length}
 use Rattle.automaton.specs.declared.Automaton.{Automaton}
-use Rattle.clause_variables.specs.declared.sizes.Sizes.{Sizes}
-use Rattle.clause_variables.specs.Numbers.{numberOf}
-use Rattle.clause_variables.specs.Measured.{Measured}
+use Rattle.clause_sizes.specs.declared.Sizes.{Sizes}
+use Rattle.clause_sizes.specs.Numbers.{numberOf}
+use Rattle.clause_sizes.specs.Measured.{Measured}
 use Rattle.clause_list.specs.Tables.{taskOf}
 use Rattle.clause_list.specs.Measured.{measured-task, measured-number}
-use Rattle.clause_list.specs.Next.{next-clause}
 use Rattle.clause_step.specs.declared.Answer.{Answer}
 use Rattle.clause_step.specs.declared.Answer.the-variants.{Written, Ended, Refused}
 use Rattle.clause_step.specs.declared.Handed.{Handed}
 use Rattle.clause_step.specs.Step.{Accepted}
-use Rattle.clause_step.specs.Shared.{measured-found}
 use Rattle.clause_text.specs.declared.batch.Filled.{Filled}
-use Rattle.clause_text.specs.Answers.{LineFound, LineAnswers, LineStepped, Batch, BatchFound, BatchAnswers, BatchStepped}
+use Rattle.clause_text.specs.Answers.{Batch, BatchFound, BatchAnswers, BatchStepped}
 use Rattle.clause_text.specs.Filling.{Filling}
-use Rattle.clause_text.specs.LineNext.{LineNext, written, nothing}
-use Rattle.clause_text.proofs.Batches.{line-some}
 
 -- ---- what is found
 
@@ -30,16 +26,6 @@ measured-batch : {a : Automaton} {z : Sizes} → Measured a z → (x : ℕ) {d e
 measured-batch w x {d} {e} {k} {y} f = subst₂ (λ T num. Filling T num x d e k y) (measured-task w) (measured-number w) f
 
 module _ {a : Automaton} {z : Sizes} (w : Measured a z) (x : ℕ) {d e : List ℕ} {r : Filled} where
-  pub line-ended : LineNext (next-clause (taskOf z (a .start) (a .destinations) (a .marks)) (numberOf z) x) d 0 e r → r .end ≡ 0
-      → LineFound a (z .candidate .states) (z .candidate .sets) x d e Ended (r .position)
-  line-ended (written c f v) l = absurd (omega (arith, v .next, line-some c))
-  line-ended (nothing f v k) l = (sym (measured-found w x) ∙ f, v)
-
-  pub line-handed : LineNext (next-clause (taskOf z (a .start) (a .destinations) (a .marks)) (numberOf z) x) d 0 e r → r .end ≢ 0
-      → LineFound a (z .candidate .states) (z .candidate .sets) x d e (Written (r .end)) (r .position)
-  line-handed (written c f v) l = (c, sym (measured-found w x) ∙ f, v)
-  line-handed (nothing f v k) l = absurd (l k)
-
   pub batch-ended : Filling (taskOf z (a .start) (a .destinations) (a .marks)) (numberOf z) x d e (r .end) (r .position) → r .end ≡ 0
       → BatchFound a (z .candidate .states) (z .candidate .sets) x d e Ended (r .position)
   batch-ended f l = subst (λ k. Batch a (z .candidate .states) (z .candidate .sets) x d e k (r .position)) l (measured-batch w x f)
@@ -51,14 +37,6 @@ module _ {a : Automaton} {z : Sizes} (w : Measured a z) (x : ℕ) {d e : List �
 -- ---- the answers
 
 module _ (a : Automaton) (n m x : ℕ) (d e : List ℕ) (r : Handed) (k : Accepted 80 (length d) a n m x) where
-  pub line-accepted : LineFound a n m x d e (r .answer) (r .position) → LineStepped a n m x d e r
-  line-accepted f = go (r .answer) f
-    where
-      go : (b : Answer) → LineFound a n m x d e b (r .position) → LineAnswers a n m x d e b (r .position)
-      go (Written l) f = (k, f)
-      go Ended f = (k, f)
-      go (Refused g) f = absurd f
-
   pub batch-accepted : BatchFound a n m x d e (r .answer) (r .position) → BatchStepped a n m x d e r
   batch-accepted f = go (r .answer) f
     where

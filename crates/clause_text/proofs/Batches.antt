@@ -3,28 +3,25 @@ use mathlib.Core.Path.{_≡_, refl, sym, ap, ap₂, _∙_, subst, subst₂}
 use mathlib.Core.Logic.{_≢_, _⊎_, inl, inr}
 use mathlib.Core.List.{List, [], _∷_, _++_, append-nil}
 use Prim.Native.Nat.{ℕ, _+_, _-_, _≤_, _<_}
-use native.Mathlib.Nat.{add-zero}
+use native.Mathlib.Decide.{decLt}
 use native.Mathlib.Omega.{arith}
 use lib.IntN.{ℤ}
 use lib.ListN.{length, take, drop, length-append, length-drop, take-append-drop}
-use lib.Seq.{take-add, drop-drop}
+use lib.Seq.{take-add, drop-drop, length-take-le}
 use Rattle.encoding.specs.Variables.{Task, Var}
 use Rattle.encoding.specs.Positions.{positions}
-use Rattle.decimal.specs.Wrote.{Wrote}
+use Rattle.decimal.specs.Wrote.{Wrote, WroteIfRoom}
 use Rattle.decimal.specs.Writing.{wrote-none, wrote-then, wrote-length, wrote-front}
-use Rattle.clause_variables.specs.declared.sizes.Sizes.{Sizes}
-use Rattle.clause_variables.specs.Numbers.{numberOf}
 use Rattle.clause_list.specs.declared.next.Next.{Next}
-use Rattle.clause_list.specs.Tables.{taskOf, Tables}
 use Rattle.clause_list.specs.Next.{Found, handed, ended, next-clause, clauses-from}
 use Rattle.clause_list.specs.Following.{First, next-first, position-of, next-le}
 use Rattle.clause_list.specs.Handing as handing
 use Rattle.clause_list.specs.Handing.{Hands}
 use Rattle.clause_text.specs.declared.batch.Filled.{Filled}
-use Rattle.clause_text.specs.Text.{lineText, linesText}
-use Rattle.clause_text.specs.LineLength.{found-line-le}
+use Rattle.clause_words.specs.Text.{lineText, linesText}
+use Rattle.clause_words.specs.Written.{LineIfRoom}
 use Rattle.clause_text.specs.Filling.{Lines, Longer}
-use Rattle.clause_text.specs.LineNext.{LineNext, written, nothing, LineIfRoom, fits, long, Further}
+use Rattle.clause_text.specs.NextLine.{NextLine, written, nothing, long, Further}
 use Rattle.clause_text.specs.LinesOut.{lines-append}
 
 -- ---- the next line
@@ -45,51 +42,31 @@ module _ {f : Found} {d e : List ℤ} {r : Next} where
   hands-nothing (handing.clause c q w h) n = absurd (omega arith)
   hands-nothing (handing.nothing q w h) n = q
 
-module _ (z : Sizes) (start : ℕ) (destinations marks : List ℕ) (tables : Tables z destinations marks) (h : start < z .reference .states) (x : ℕ) {e : List ℤ} {r : Next}
-    (f : FoundClause (next-clause (taskOf z start destinations marks) (numberOf z) x) e r) where
-  -- its line has room where there are 80 bytes
-  pub line-room : (at size : ℕ) → at + 80 ≤ size → at + length (lineText (take (r .length) e)) ≤ size
-  line-room at size l = omega (arith, l, found-line-le z start destinations marks tables h x (f .found), ap (λ c. length (lineText c)) (f .front))
-
-  pub line-written : {d b : List ℕ} {at end : ℕ} → Wrote d at (lineText (take (r .length) e)) b end
-      → LineNext (next-clause (taskOf z start destinations marks) (numberOf z) x) d at b (record { end = end; position = r .position })
-  line-written {d} {b} {at} {end} w = written (f .clause) (f .found) (subst (λ c. Wrote d at (lineText c) b end) (f .front) w)
-
-pub line-length : {f : Found} {d e : List ℕ} {at : ℕ} {r : Filled} → LineNext f d at e r → length e ≡ length d
-line-length (written c q w) = wrote-length w
-line-length (nothing q w h) = ap length w
-
--- a line in an array of 80 bytes, copied where it fits
-module _ {f : Found} {a b : List ℕ} {r : Filled} (l : LineNext f a 0 b r) where
-  pub copied-room : r .end ≤ length b
-  copied-room = go l
-    where
-      go : LineNext f a 0 b r → r .end ≤ length b
-      go (written c q w) = omega (arith, w .room, wrote-length w)
-      go (nothing q w h) = omega arith
-
-  pub copied-line : (from : ℕ) {d : List ℕ} {at : ℕ} {e : List ℕ} {k : ℕ} → Wrote d at (take (r .end) b) e k → LineIfRoom f from d at e (record { end = k; position = r .position })
-  copied-line from {d} {at} {e} {k} v = fits (go l)
-    where
-      go : LineNext f a 0 b r → LineNext f d at e (record { end = k; position = r .position })
-      go (written c q w) = written c q (subst (λ t. Wrote d at t e k) (wrote-front w) v)
-      go (nothing q w h) =
-          let none : take (r .end) b ≡ [] = ap (λ k. take k b) h in
-          nothing q (v .is ∙ ap₂ (λ t k. take at d ++ (t ++ drop k d)) none (v .next ∙ ap (λ t. at + length t) none ∙ add-zero at) ∙ take-append-drop at d)
-          (v .next ∙ ap (λ t. at + length t) none ∙ add-zero at)
-
-  pub not-copied : (from : ℕ) (d : List ℕ) (at : ℕ) → at ≤ length d → length d - at < r .end → LineIfRoom f from d at d (record { end = at; position = from })
-  not-copied from d at i h = go l
-    where
-      go : LineNext f a 0 b r → LineIfRoom f from d at d (record { end = at; position = from })
-      go (written c q w) = long c (r .position) q (omega (arith, w .next)) refl refl refl
-      go (nothing q w n) = absurd (omega arith)
-
--- ---- lines after lines
-
 pub line-some : (c : List ℤ) → 1 ≤ length (lineText c)
 line-some [] = omega arith
 line-some (x ∷ c) = simp length-append (omega arith)
+
+-- its line was written where there is room
+module _ {f : Found} {e : List ℤ} {r : Next} (c : FoundClause f e r) (size : length e ≡ 8) (from : ℕ) {d : List ℕ} {at : ℕ} {b : List ℕ} {end : ℕ}
+    (l : LineIfRoom d at (take (r .length) e) b end) where
+  at-line : WroteIfRoom d at (lineText (c .clause)) b end
+  at-line = (subst (λ t. LineIfRoom d at t b end) (c .front) l) .line (omega (arith, ap length (c .front), length-take-le (r .length) e (c .room), c .room, size))
+
+  pub next-written : end ≢ at → NextLine f from d at b (record { end = end; position = r .position })
+  next-written n = go (decLt (length d) (at + length (lineText (c .clause))))
+    where
+      go : Dec (length d < at + length (lineText (c .clause))) → NextLine f from d at b (record { end = end; position = r .position })
+      go (yes g) = absurd (n (at-line .short g .1))
+      go (no g) = written (c .clause) (c .found) (at-line .roomy (omega (arith, g)))
+
+  pub next-long : end ≡ at → NextLine f from d at b (record { end = end; position = from })
+  next-long q = go (decLt (length d) (at + length (lineText (c .clause))))
+    where
+      go : Dec (length d < at + length (lineText (c .clause))) → NextLine f from d at b (record { end = end; position = from })
+      go (yes g) = long (c .clause) (r .position) (c .found) g (at-line .short g .0) q refl
+      go (no g) = absurd (omega (arith, at-line .roomy (omega (arith, g)) .next, line-some (c .clause)))
+
+-- ---- lines after lines
 
 module _ (T : Task) (num : Var → ℕ) where
   pub lines-none : (x : ℕ) (d : List ℕ) (at : ℕ) → at ≤ length d → Lines T num x d at d at x
@@ -144,7 +121,7 @@ module _ (T : Task) (num : Var → ℕ) (x : ℕ) where
       let (now-none, then-none) = first-here q in
       record { count = 0; there = omega arith; text = wrote-none d at h; next = then-none ∙ sym now-none; within = within-here q }
 
-  pub line-further : {d : List ℕ} {at : ℕ} {e : List ℕ} {r : Filled} → at ≤ length d → LineNext (next-clause T num x) d at e r
+  pub line-further : {d : List ℕ} {at : ℕ} {e : List ℕ} {r : Filled} → at ≤ length d → NextLine (next-clause T num x) x d at e r
       → Further T num x d at e (r .end) (r .position)
   line-further h (written c q w) = record { lines = one-line c q w; stop = λ n. absurd (omega (arith, w .next, line-some c)) }
   line-further {d} {at} {r} h (nothing q w n) =
@@ -152,11 +129,7 @@ module _ (T : Task) (num : Var → ℕ) (x : ℕ) where
         lines = subst₂ (λ e k. Lines T num x d at e k (r .position)) (sym w) (sym n) (no-line d at h q);
         stop = λ i. inl (first-here q .1);
       }
-
-  pub room-further : {d : List ℕ} {at : ℕ} {e : List ℕ} {r : Filled} → at ≤ length d → LineIfRoom (next-clause T num x) x d at e r
-      → Further T num x d at e (r .end) (r .position)
-  room-further h (fits l) = line-further h l
-  room-further {d} {at} {r} h (long c y q l w n p) =
+  line-further {d} {at} {r} h (long c y q l w n p) =
       subst₂ (λ e k. Further T num x d at e k (r .position)) (sym w) (sym n)
       (subst (λ v. Further T num x d at d at v) (sym p)
       (record { lines = lines-none T num x d at h; stop = λ i. inr (record { clause = c; others = clauses-from T num y; next = first-here q; long = l }) }))

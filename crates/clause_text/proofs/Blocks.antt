@@ -18,26 +18,27 @@ use Rattle.encoding.specs.Loops.{each-same, each-add, each-length}
 use Rattle.encoding.specs.Positions.{positions, at-position}
 use Rattle.decimal.specs.Wrote.{Wrote}
 use Rattle.decimal.specs.Writing.{wrote-none, wrote-then}
-use Rattle.clause_variables.specs.declared.sizes.Sizes.{Sizes}
-use Rattle.clause_variables.specs.Sizes.{Fitting}
-use Rattle.clause_variables.specs.Numbers.{numberOf}
-use Rattle.clause_list.specs.declared.indices.Indices.{Indices}
-use Rattle.clause_list.specs.declared.extent.Extent.{Extent}
+use Rattle.clause_sizes.specs.declared.Sizes.{Sizes}
+use Rattle.clause_sizes.specs.Sizes.{Fitting}
+use Rattle.clause_sizes.specs.Numbers.{numberOf}
+use Rattle.clause_indices.specs.declared.Indices.{Indices}
+use Rattle.clause_indices.specs.declared.extent.Extent.{Extent}
 use Rattle.clause_list.specs.Tables.{taskOf, Tables}
-use Rattle.clause_list.specs.Indices.{Within, extensions, extensionIndices, ExtentOf}
+use Rattle.clause_indices.specs.Indices.{Within, extensions, extensionIndices, ExtentOf}
 use Rattle.clause_list.specs.Groups.{extensionOf}
 use Rattle.clause_list.specs.Digits.{extension-within}
 use Rattle.clause_list.specs.Position.{extensionAt}
 use Rattle.clause_list.specs.Standing.{at-extension}
 use Rattle.clause_list.specs.Next.{clauses-from}
 use Rattle.clause_list.specs.Following.{next-here}
-use Rattle.clause_text.specs.Text.{lineText, linesText}
-use Rattle.clause_text.specs.Pieces.{spacedText, closing, line-pieces}
-use Rattle.clause_text.specs.LineLength.{found-line-le}
+use Rattle.clause_words.specs.Text.{spacedText, lineText, linesText}
+use Rattle.clause_words.specs.Pieces.{closing, line-pieces}
+use Rattle.clause_order.specs.Follows.{Follows}
+use Rattle.clause_line.specs.LineLength.{found-line-le}
 use Rattle.clause_text.specs.Filling.{Lines}
-use Rattle.clause_text.specs.LineNext.{Further}
+use Rattle.clause_text.specs.NextLine.{Further}
 use Rattle.clause_text.specs.Kept.{Kept}
-use Rattle.clause_text.specs.Blocks.{pathLiteral, middleOf, pathTexts, middleTexts, Follows, ExtensionsShort, Extensions}
+use Rattle.clause_text.specs.Blocks.{pathLiteral, middleOf, pathTexts, middleTexts, ExtensionsShort, Extensions}
 use Rattle.clause_text.specs.LinesOut.{lines-append}
 use Rattle.clause_text.proofs.Batches.{line-some}
 
@@ -115,7 +116,7 @@ pub record AtBlock (z : Sizes) (destinations marks : List ℕ) (from : ℕ) (d :
   pub here : x .v .0 < z .reference .states → (position < extensions z) × (x ≡ extensionIndices z position)
   pub some : z .reference .states ≤ x .v .0 → from < position
   pub heads-kept : Kept (pathTexts z true (x .q .0) (x .u .0) (x .p .0)) 16 4096 heads headSizes
-  pub middles-kept : Kept (middleTexts z (x .p .0) (x .t .0)) 80 256 middles middleSizes
+  pub middles-kept : Kept (middleTexts z (x .p .0) (x .t .0)) 96 256 middles middleSizes
   pub lasts-kept : Kept (pathTexts z false (x .q .0) (x .u .0) (x .t .0)) 16 4096 lasts lastSizes
 
 module _ {z : Sizes} {destinations marks : List ℕ} (tables : Tables z destinations marks) {position : ℕ} {x : Indices} (h : position < extensions z) (is : x ≡ extensionIndices z position) where
@@ -148,12 +149,12 @@ module _ {z : Sizes} {destinations marks : List ℕ} (tables : Tables z destinat
 
     pub line-more : {from : ℕ} {d : List ℕ} {at : ℕ} {e f heads headSizes middles middleSizes lasts lastSizes : List ℕ} {to r : ℕ} {y : Indices}
         → Extensions z destinations marks from d at e to position → Wrote e to (lineText (extensionOf z x w F)) f r → Follows z x y
-        → Kept (pathTexts z true (x .q .0) (x .u .0) (x .p .0)) 16 4096 heads headSizes → Kept (middleTexts z (x .p .0) (x .t .0)) 80 256 middles middleSizes
+        → Kept (pathTexts z true (x .q .0) (x .u .0) (x .p .0)) 16 4096 heads headSizes → Kept (middleTexts z (x .p .0) (x .t .0)) 96 256 middles middleSizes
         → Kept (pathTexts z false (x .q .0) (x .u .0) (x .t .0)) 16 4096 lasts lastSizes
         → AtBlock z destinations marks from d at f heads headSizes middles middleSizes lasts lastSizes y (position + 1) r
     line-more {heads} {headSizes} {middles} {middleSizes} {lasts} {lastSizes} s v g a b c = record {
       lines = extensions-then s (one-line v);
-      here = λ l. g .next position h is l;
+      here = λ l. g .next (tables .fits) position h is l;
       some = λ l. omega (arith, s .next);
       heads-kept = rw (g .same-q, g .same-u, g .same-p) a;
       middles-kept = rw (g .same-p, g .same-t) b;
@@ -162,9 +163,12 @@ module _ {z : Sizes} {destinations marks : List ℕ} (tables : Tables z destinat
 
 -- ---- the lines of group 3 are lines of the file
 
--- the test that fails where x is a position of group 3
-pub in-group : (x before third : ℕ) → (ltb x before || leb (before + third) x) ≡ false → (before ≤ x) × (x < before + third)
-in-group x before third e = let (p, q) = or-false (ltb x before) (leb (before + third) x) e in (ltb-false x before p, leb-false (before + third) x q)
+-- the test that fails where x is a position of group 3, and a line has room
+pub in-group : (room x before third : ℕ) → (ltb room 80 || ltb x before || leb (before + third) x) ≡ false → (80 ≤ room) × (before ≤ x) × (x < before + third)
+in-group room x before third e =
+    let (p, q) = or-false (ltb room 80 || ltb x before) (leb (before + third) x) e in
+    let (l, g) = or-false (ltb room 80) (ltb x before) p in
+    (ltb-false room 80 l, ltb-false x before g, leb-false (before + third) x q)
 
 module _ (z : Sizes) (start : ℕ) (destinations marks : List ℕ) {g : Extent} (tables : Tables z destinations marks) (k : ExtentOf z g) where
   abbrev T : Task

@@ -1,9 +1,5 @@
-pub mod Signs
-pub mod Spelling
-pub mod Copies
 pub mod Batches
 pub mod Slots
 pub mod Literals
-pub mod Following
 pub mod Blocks
 pub mod Answering

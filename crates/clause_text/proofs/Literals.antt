@@ -1,26 +1,25 @@
 -- The slots of literals: their numbers, their texts, one more that is kept, and one that is copied.
-use mathlib.Core.Path.{_≡_, sym, ap, ap₂, _∙_}
-use mathlib.Core.Bool.{Bool, true, false}
+use mathlib.Core.Path.{_≡_, refl, sym, ap, ap₂, _∙_, subst₂}
+use mathlib.Core.Bool.{Bool}
 use mathlib.Core.List.{List, [], _∷_}
-use Prim.Native.Nat.{ℕ, _+_, _*_, _^_, _≤_, _<_}
+use Prim.Native.Nat.{ℕ, zero, suc, _+_, _-_, _*_, _^_, _≤_, _<_}
 use native.Mathlib.Nat.{mul-le-mul}
 use native.Mathlib.Omega.{arith}
-use lib.IntN.{ℤ, pos, negℤ}
-use lib.ListN.{length, set, take, drop, length-append}
+use lib.IntN.{ℤ}
+use lib.ListN.{length, set, take, drop}
 use lib.Pow.{pow-mono}
 use lib.Arith.{digits-lt, digits-div, digits-mod}
 use Rattle.encoding.specs.Variables.{path}
 use Rattle.decimal.specs.Wrote.{Wrote}
 use Rattle.decimal.specs.Writing.{wrote-length, wrote-front}
-use Rattle.clause_variables.specs.declared.sizes.Sizes.{Sizes}
-use Rattle.clause_variables.specs.Sizes.{Fitting}
-use Rattle.clause_variables.specs.Limits.{candidate-subsets-le, reference-subsets-le}
-use Rattle.clause_variables.specs.Numbers.{InFile, Numbered}
-use Rattle.clause_list.specs.declared.indices.Indices.{Indices}
-use Rattle.clause_list.specs.Indices.{Within, premiseOf}
-use Rattle.clause_text.specs.Text.{literalText}
-use Rattle.clause_text.specs.LineLength.{literal-le, abs-negated}
-use Rattle.clause_text.specs.Pieces.{spacedText}
+use Rattle.clause_sizes.specs.declared.Sizes.{Sizes}
+use Rattle.clause_sizes.specs.Sizes.{Fitting}
+use Rattle.clause_sizes.specs.Limits.{candidate-subsets-le, reference-subsets-le}
+use Rattle.clause_sizes.specs.Numbers.{InFile, Numbered}
+use Rattle.clause_indices.specs.declared.Indices.{Indices}
+use Rattle.clause_indices.specs.Indices.{Within, premiseOf}
+use Rattle.clause_words.specs.Text.{spacedText}
+use Rattle.clause_words.specs.Written.{LiteralsIfRoom}
 use Rattle.clause_text.specs.Blocks.{signed, pathLiteral, middleOf, pathSlot, pathTexts, middleSlot, middleTexts}
 use Rattle.clause_text.specs.Kept.{Kept, Found}
 use Rattle.clause_text.proofs.Slots.{text-kept}
@@ -47,16 +46,28 @@ module _ (z : Sizes) where
     pub middle-slot-lt : {l K : ℕ} → l < z .letters → K < M → middleSlot z l K < 256
     middle-slot-lt hl hk = omega (arith, digits-lt hl hk, mul-le-mul (f .letters-le) (pow-mono {j = 4} (f .m-le)))
 
--- ---- their texts
+-- the text of literals in a slot, and its length
+pub literals-kept : {d : List ℕ} {at : ℕ} (c b : List ℤ) {e : List ℕ} {r : ℕ} → c ≡ b → LiteralsIfRoom d at c e r → at + length c * 12 ≤ length d
+    → (at ≤ r) × (r - at ≤ length c * 12) × Wrote d at (spacedText b) e (at + (r - at))
+literals-kept {d} {at} c b {e} {r} q l h =
+    let (w, most) = l .roomy h in
+    let is : r ≡ at + (r - at) = omega (arith, w .next) in
+    (omega (arith, w .next), omega (arith, most), subst₂ (λ c r. Wrote d at (spacedText c) e r) q is w)
 
-pub signed-le : (minus : Bool) (k : ℕ) → k ≤ 4_199_424 → length (spacedText (signed minus k ∷ [])) ≤ 9
-signed-le true k h = omega (arith, length-append (literalText (negℤ (pos k))) (32 ∷ []), literal-le (negℤ (pos k)) (omega (arith, abs-negated k)))
-signed-le false k h = omega (arith, length-append (literalText (pos k)) (32 ∷ []), literal-le (pos k) (omega arith))
+none-taken : (n : ℕ) → take {A = ℤ} n [] ≡ []
+none-taken zero = refl
+none-taken (suc n) = refl
+
+-- all but the first
+part-first : (r : ℕ) (e : List ℤ) → take (r - 1) (drop 1 e) ≡ drop 1 (take r e)
+part-first r [] = none-taken (r - 1) ∙ ap (drop 1) (sym (none-taken r))
+part-first zero (x ∷ e) = refl
+part-first (suc r) (x ∷ e) = let q : suc r - 1 ≡ r = omega arith in ap (λ n. take n e) q
 
 -- the middle literals, from the premise's second on
 pub middle-read : (z : Sizes) (x : Indices) {d e : List ℤ} {r : ℕ} → Wrote d 0 (premiseOf z x) e r
-    → (1 ≤ r) × (r ≤ length e) × (spacedText (drop 1 (take r e)) ≡ spacedText (middleOf z (x .p .0) (x .t .0) (x .l) (x .k)))
-middle-read z x w = (omega (arith, w .next), omega (arith, w .room, wrote-length w), ap (λ c. spacedText (drop 1 c)) (wrote-front w))
+    → (1 ≤ r) × (r ≤ length e) × (take (r - 1) (drop 1 e) ≡ middleOf z (x .p .0) (x .t .0) (x .l) (x .k))
+middle-read z x {e} {r} w = (omega (arith, w .next), omega (arith, w .room, wrote-length w), part-first r e ∙ ap (drop 1) (wrote-front w))
 
 -- ---- one more literal is kept, or one is copied
 
@@ -85,9 +96,8 @@ module _ {z : Sizes} (f : Fitting z) (minus : Bool) {q u p v I J slot : ℕ} (he
   slot-text = ap (pathTexts z minus q u p) is ∙ path-text z minus q u p v I J (here .4) (here .5)
 
   pub path-kept : {variable r : ℕ} {kept sizes g : List ℕ} → Numbered z (path q u p v I J) variable → Kept (pathTexts z minus q u p) 16 4096 kept sizes
-      → Wrote kept (slot * 16) (spacedText (signed minus variable ∷ [])) g (slot * 16 + r) → Found (pathTexts z minus q u p) 16 4096 g (set sizes slot r) slot r
-  path-kept {variable} num s w =
-      text-kept (slot-text ∙ ap (λ k. spacedText (signed minus k ∷ [])) (sym (num .is))) s slot-lt (omega (arith, signed-le minus variable (num .small))) w
+      → Wrote kept (slot * 16) (spacedText (signed minus variable ∷ [])) g (slot * 16 + r) → r ≤ 16 → Found (pathTexts z minus q u p) 16 4096 g (set sizes slot r) slot r
+  path-kept num s w h = text-kept (slot-text ∙ ap (λ k. spacedText (signed minus k ∷ [])) (sym (num .is))) s slot-lt (omega (arith, w .next)) w
 
 module _ {z : Sizes} (f : Fitting z) {x : Indices} {slot : ℕ} (h : Within z x) (is : slot ≡ middleSlot z (x .l) (x .k)) where
   pub middle-lt : slot < 256

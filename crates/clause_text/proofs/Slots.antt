@@ -3,14 +3,14 @@ use mathlib.Core.Path.{_≡_, refl, sym, ap, _∙_, subst}
 use mathlib.Core.Logic.{_⊎_, inl, inr, _≢_}
 use mathlib.Core.Bool.{Bool, true, false}
 use mathlib.Core.List.{List}
-use Prim.Native.Nat.{ℕ, _+_, _*_, _≤_, _<_}
+use Prim.Native.Nat.{ℕ, _+_, _-_, _*_, _≤_, _<_}
 use native.Mathlib.Nat.{mul-le-mul}
 use borrow.Author.Tests.{ltb-true, ltb-false}
 use lib.Dec.{ltb}
 use native.Mathlib.Omega.{arith}
 use lib.ListN.{length, getD, set, take, drop, length-set}
 use lib.Seq.{getD-set-same, getD-set-other}
-use Rattle.decimal.specs.Wrote.{Wrote}
+use Rattle.decimal.specs.Wrote.{Wrote, WroteIfRoom}
 use Rattle.decimal.specs.Writing.{wrote-before, wrote-here, wrote-after}
 use Rattle.clause_text.specs.Kept.{NoneKept, Slot, Kept, Found}
 
@@ -81,8 +81,7 @@ module _ {textOf : ℕ → List ℕ} {width count : ℕ} where
     text-kept {kept} {f} {r} s h fits w = kept-more s h (omega (arith, ap length is)) (subst (λ t. Wrote kept (k * width) t f (k * width + r)) (sym is) w)
 
     module _ {kept sizes : List ℕ} {r : ℕ} (s : Found textOf width count kept sizes k r) where
-      pub text-size : r ≡ length t
-      text-size = s .size ∙ ap length is
-
-      pub text-copied : {d e : List ℕ} {at end : ℕ} → Wrote d at (take r (drop (k * width) kept)) e end → Wrote d at t e end
-      text-copied {d} {e} {at} {end} w = subst (λ t. Wrote d at t e end) (ap (λ n. take n (drop (k * width) kept)) (s .size) ∙ s .slot .text ∙ is) w
+      pub text-copied : {d e : List ℕ} {at end : ℕ} → WroteIfRoom d at (take (k * width + r - k * width) (drop (k * width) kept)) e end → at + length t ≤ length d → Wrote d at t e end
+      text-copied {d} {e} {at} {end} w h =
+          let size : k * width + r - k * width ≡ length (textOf k) = omega (arith, s .size) in
+          (subst (λ t. WroteIfRoom d at t e end) (ap (λ n. take n (drop (k * width) kept)) size ∙ s .slot .text ∙ is) w) .roomy h

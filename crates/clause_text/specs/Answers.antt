@@ -1,40 +1,19 @@
--- DEFINITIONS: what a call for a line, or for a batch of lines, answers and leaves in the buffer, for the reference a, n and m at position x,
--- on all input.
+-- DEFINITIONS: what a call for a batch of lines answers and leaves in the buffer, for the reference a, n and m at position x, on all input.
 use mathlib.Core.Path.{_≡_}
 use mathlib.Core.List.{List}
 use Prim.Native.Nat.{ℕ, _≤_}
-use lib.IntN.{ℤ}
 use lib.ListN.{length}
 use Rattle.automaton.specs.declared.Automaton.{Automaton}
 use Rattle.automaton.specs.View.{view}
 use Rattle.encoding.specs.Variables.{base, base-number}
-use Rattle.decimal.specs.Wrote.{Wrote}
-use Rattle.clause_list.specs.Next.{handed, ended}
 use Rattle.clause_step.specs.declared.Answer.{Answer}
 use Rattle.clause_step.specs.declared.Answer.the-variants.{Written, Ended, Refused}
 use Rattle.clause_step.specs.declared.Handed.{Handed}
-use Rattle.clause_step.specs.Step.{TurnedDown, Accepted, returned, found-from}
-use Rattle.clause_text.specs.Text.{lineText}
+use Rattle.clause_step.specs.Step.{TurnedDown, Accepted, returned}
 use Rattle.clause_text.specs.Filling.{Filling}
 
 module _ (a : Automaton) (n m x : ℕ) (d e : List ℕ) where
-  -- ---- one line: the text of the clause that the clause step would hand out
-
-  abbrev pub LineFound : Answer → (y : ℕ) → Type 0
-  LineFound (Written k) y = (c : List ℤ) × (found-from a n m x ≡ handed c y) × Wrote d 0 (lineText c) e k
-  LineFound Ended y = (found-from a n m x ≡ ended y) × (e ≡ d)
-  LineFound (Refused f) y = ⊥
-
-  abbrev pub LineAnswers : Answer → (y : ℕ) → Type 0
-  LineAnswers (Written k) y = Accepted 80 (length d) a n m x × LineFound (Written k) y
-  LineAnswers Ended y = Accepted 80 (length d) a n m x × LineFound Ended y
-  LineAnswers (Refused f) y = TurnedDown 80 (length d) a n m x f (returned (Refused f)) × (y ≡ x) × (e ≡ d)
-
-  abbrev pub LineStepped : Handed → Type 0
-  LineStepped r = LineAnswers (r .answer) (r .position)
-
-  -- ---- a batch of lines: one or more, or none where no clause is left
-
+  -- one line or more, or none where no clause is left
   abbrev pub Batch : (k y : ℕ) → Type 0
   Batch k y = Filling (base (view a) n m) (base-number (view a) n m) x d e k y
 

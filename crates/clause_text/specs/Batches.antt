@@ -10,9 +10,10 @@ use Rattle.encoding.specs.Clauses.{base-file}
 use Rattle.clause_step.specs.declared.Answer.{Answer}
 use Rattle.clause_step.specs.declared.Answer.the-variants.{Written, Ended, Refused}
 use Rattle.clause_step.specs.Calls.{CallOn, CallsOn, RefusedShort}
-use Rattle.clause_text.specs.Text.{linesText}
+use Rattle.clause_words.specs.Text.{linesText}
 use Rattle.clause_step.specs.declared.Handed.{Handed}
-use Rattle.clause_text.specs.Answers.{LineStepped, BatchStepped}
+use Rattle.clause_line.specs.Line.{LineStepped}
+use Rattle.clause_text.specs.Answers.{BatchStepped}
 
 -- a call for a line, or for a batch of lines
 abbrev pub TextStepped : (a : Automaton) (n m x : ℕ) (d e : List ℕ) → Handed → Type 0

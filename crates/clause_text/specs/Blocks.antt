@@ -9,13 +9,11 @@ use lib.ListN.{length}
 use Rattle.encoding.specs.Variables.{step, path}
 use Rattle.encoding.specs.Clauses.{each}
 use Rattle.decimal.specs.Wrote.{Wrote}
-use Rattle.clause_variables.specs.declared.sizes.Sizes.{Sizes}
-use Rattle.clause_variables.specs.Numbers.{numberOf}
-use Rattle.clause_list.specs.declared.indices.Indices.{Indices}
-use Rattle.clause_list.specs.Indices.{marksOf, extensions, extensionIndices}
+use Rattle.clause_sizes.specs.declared.Sizes.{Sizes}
+use Rattle.clause_sizes.specs.Numbers.{numberOf}
+use Rattle.clause_indices.specs.Indices.{marksOf, extensions}
 use Rattle.clause_list.specs.Position.{extensionAt}
-use Rattle.clause_text.specs.Text.{lineText, linesText}
-use Rattle.clause_text.specs.Pieces.{spacedText}
+use Rattle.clause_words.specs.Text.{spacedText, lineText, linesText}
 
 abbrev pub signed : Bool → ℕ → ℤ
 signed true k = negℤ (pos k)
@@ -51,16 +49,6 @@ module _ (z : Sizes) where
 
   abbrev pub middleTexts : (p t : ℕ) → ℕ → List ℕ
   middleTexts p t k = spacedText (middleOf p t (k / M) (k % M))
-
-  -- ---- the order of a block
-
-  -- y has the indices of the position after x's, if that position lies in the same block; otherwise y's v is no state
-  pub record Follows (x y : Indices) : Type 0 where
-    pub same-q : y .q ≡ x .q
-    pub same-p : y .p ≡ x .p
-    pub same-t : y .t ≡ x .t
-    pub same-u : y .u ≡ x .u
-    pub next : (k : ℕ) → k < extensions z → x ≡ extensionIndices z k → y .v .0 < z .reference .states → (k + 1 < extensions z) × (y ≡ extensionIndices z (k + 1))
 
   -- ---- what is written
 

@@ -9,7 +9,7 @@ use Rattle.encoding.specs.Variables.{Task, Var}
 use Rattle.encoding.specs.Positions.{positions}
 use Rattle.decimal.specs.Wrote.{Wrote}
 use Rattle.clause_list.specs.Next.{clauses-from}
-use Rattle.clause_text.specs.Text.{lineText, linesText}
+use Rattle.clause_words.specs.Text.{lineText, linesText}
 
 -- The lines of the first clauses from position x on stand in the buffer d from the place `at` on, which is then e. They end at the place k, and
 -- y is a position from which the clauses after those follow.

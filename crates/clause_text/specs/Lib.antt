@@ -1,10 +1,7 @@
-pub mod Text
-pub mod Pieces
-pub mod LineLength
 pub mod Kept
 pub mod Blocks
 pub mod Filling
 pub mod Answers
-pub mod LineNext
+pub mod NextLine
 pub mod Batches
 pub mod LinesOut

@@ -11,7 +11,7 @@ use Rattle.automaton.specs.Value.{Valid}
 use Rattle.automaton.specs.View.{view}
 use Rattle.encoding.specs.Variables.{base, base-number}
 use Rattle.decimal.specs.Writing.{wrote-front}
-use Rattle.clause_variables.specs.Sizes.{Dimensioned}
+use Rattle.clause_sizes.specs.Sizes.{Dimensioned}
 use Rattle.clause_list.specs.Next.{Found, clauses-from}
 use Rattle.clause_list.specs.Following.{First, next-first, from-start, position-of}
 use Rattle.clause_step.specs.declared.Answer.{Answer}
@@ -20,9 +20,10 @@ use Rattle.clause_step.specs.declared.Handed.{Handed}
 use Rattle.clause_step.specs.Step.{found-from, fresh-position, last-position}
 use Rattle.clause_step.specs.Range.{positions-le, stays-in-range}
 use Rattle.clause_step.specs.Refusals.{turned-down-short, Stays, refused-from}
-use Rattle.clause_text.specs.Text.{lineText, linesText}
-use Rattle.clause_text.specs.LineLength.{left-line-le}
-use Rattle.clause_text.specs.Answers.{LineAnswers, BatchAnswers, Batch}
+use Rattle.clause_words.specs.Text.{lineText, linesText}
+use Rattle.clause_line.specs.Line.{LineAnswers}
+use Rattle.clause_line.specs.LineLength.{left-line-le}
+use Rattle.clause_text.specs.Answers.{BatchAnswers, Batch}
 use Rattle.clause_text.specs.Batches.{TextStepped, TextCall, TextCalls, bytes, all-bytes, LinesOut}
 
 -- the lines of clauses and of those after them

@@ -1,5 +1,4 @@
 // The lines of group 3 by blocks: over a block q, p, t and u stay, so that the texts of literals are kept.
-use crate::LINE;
 use crate::batch::Filled;
 use crate::keeping::MIDDLE_BYTES;
 use crate::keeping::MIDDLES;
@@ -8,24 +7,24 @@ use crate::keeping::PATHS;
 use crate::keeping::forget;
 use crate::keeping::write_middle;
 use crate::keeping::write_path;
-use crate::order::following;
-use crate::writing::close_line;
 use automaton::Automaton;
 use automaton::states::ReferenceState;
-use clause_list::indices::Indices;
-use clause_list::indices::entry;
+use clause_indices::Indices;
+use clause_indices::entry;
+use clause_line::LINE;
 use clause_list::indices::extension_indices;
-use clause_variables::sizes::Sizes;
+use clause_order::following;
+use clause_sizes::Sizes;
 ghost use mathlib.Core.Path.{_≡_};
 ghost use mathlib.Core.Bool.{true, false};
 ghost use Prim.Native.Nat.{_+_, _^_, _≤_, _<_};
 ghost use lib.ListN.{length};
 ghost use Rattle.decimal.specs.Wrote.{Wrote};
-ghost use Rattle.clause_variables.specs.Sizes.{Fitting};
+ghost use Rattle.clause_sizes.specs.Sizes.{Fitting};
 ghost use Rattle.clause_list.specs.Tables.{Tables};
-ghost use Rattle.clause_list.specs.Indices.{Within, extensions, extensionIndices};
+ghost use Rattle.clause_indices.specs.Indices.{Within, extensions, extensionIndices};
 ghost use Rattle.clause_list.specs.Groups.{extensionOf};
-ghost use Rattle.clause_text.specs.Text.{lineText};
+ghost use Rattle.clause_words.specs.Text.{lineText};
 ghost use Rattle.clause_text.specs.Kept.{Kept};
 ghost use Rattle.clause_text.specs.Blocks.{pathTexts, middleTexts, ExtensionsShort, Extensions};
 
@@ -91,7 +90,7 @@ fn lines_from(
     requires { ⌜ ExtensionsShort z (now destinations) (now marks) ⌝ }
     requires { ⌜ (from < extensions z) × (first ≡ extensionIndices z from) × (at + 80 ≤ length (now text)) ⌝ }
     requires { ⌜ Kept (pathTexts z true (first .q .0) (first .u .0) (first .p .0)) 16 4096 (now heads) (now «head_sizes») ⌝ }
-    requires { ⌜ Kept (middleTexts z (first .p .0) (first .t .0)) 80 256 (now middles) (now «middle_sizes») ⌝ }
+    requires { ⌜ Kept (middleTexts z (first .p .0) (first .t .0)) 96 256 (now middles) (now «middle_sizes») ⌝ }
     requires { ⌜ Kept (pathTexts z false (first .q .0) (first .u .0) (first .t .0)) 16 4096 (now lasts) (now «last_sizes») ⌝ }
     ensures { λ r. ⌜ Extensions z (now (destinations .entry)) (now (marks .entry)) from (now (text .entry)) at (now (text .exit)) (r .end) (r .position) ⌝ }
     ensures { λ r. ⌜ at < r .end ⌝ }
@@ -145,11 +144,11 @@ fn extension_line(
 ) -> usize
     requires { ⌜ Fitting z × Within z x × (w .0 < z .reference .states) × (f < 2 ^ z .reference .sets) ⌝ }
     requires { ⌜ Kept (pathTexts z true (x .q .0) (x .u .0) (x .p .0)) 16 4096 (now heads) (now «head_sizes») ⌝ }
-    requires { ⌜ Kept (middleTexts z (x .p .0) (x .t .0)) 80 256 (now middles) (now «middle_sizes») ⌝ }
+    requires { ⌜ Kept (middleTexts z (x .p .0) (x .t .0)) 96 256 (now middles) (now «middle_sizes») ⌝ }
     requires { ⌜ Kept (pathTexts z false (x .q .0) (x .u .0) (x .t .0)) 16 4096 (now lasts) (now «last_sizes») ⌝ }
     requires { ⌜ (length (lineText (extensionOf z x (w .0) f)) ≤ 80) × (at + 80 ≤ length (now text)) ⌝ }
     ensures { λ r. ⌜ Kept (pathTexts z true (x .q .0) (x .u .0) (x .p .0)) 16 4096 (now (heads .exit)) (now («head_sizes» .exit)) ⌝ }
-    ensures { λ r. ⌜ Kept (middleTexts z (x .p .0) (x .t .0)) 80 256 (now (middles .exit)) (now («middle_sizes» .exit)) ⌝ }
+    ensures { λ r. ⌜ Kept (middleTexts z (x .p .0) (x .t .0)) 96 256 (now (middles .exit)) (now («middle_sizes» .exit)) ⌝ }
     ensures { λ r. ⌜ Kept (pathTexts z false (x .q .0) (x .u .0) (x .t .0)) 16 4096 (now (lasts .exit)) (now («last_sizes» .exit)) ⌝ }
     ensures { λ r. ⌜ Wrote (now (text .entry)) at (lineText (extensionOf z x (w .0) f)) (now (text .exit)) r ⌝ }
 {
@@ -182,5 +181,7 @@ fn extension_line(
         text,
         b,
     );
-    close_line(text, c)
+    text[c] = b'0';
+    text[c + 1] = b'\n';
+    c + 2
 }

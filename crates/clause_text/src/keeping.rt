@@ -1,45 +1,43 @@
 // Texts of literals, each kept in a slot once it was spelled, and copied from there. A slot whose size is 0 has no text yet.
-use crate::LINE;
-use crate::copying::copy;
-use crate::writing::write_literals;
-use crate::writing::write_spaced;
 use automaton::Automaton;
 use automaton::states::CandidateState;
 use automaton::states::ReferenceState;
-use clause_list::indices::Indices;
-use clause_list::premise::premise;
+use clause_indices::Indices;
+use clause_indices::premise::premise;
+use clause_literals::negative;
+use clause_literals::positive;
+use clause_sizes::Sizes;
 use clause_step::CLAUSE;
-use clause_variables::literals::negative;
-use clause_variables::literals::positive;
 use clause_variables::numbers::path_number;
-use clause_variables::sizes::Sizes;
+use clause_words::write_literals;
+use pieces::word;
 ghost use mathlib.Core.Path.{_≡_};
 ghost use mathlib.Core.List.{[], _∷_};
 ghost use Prim.Native.Nat.{_+_, _≤_};
 ghost use lib.ListN.{length};
 ghost use Rattle.encoding.specs.Variables.{path};
 ghost use Rattle.decimal.specs.Wrote.{Wrote};
-ghost use Rattle.clause_variables.specs.Sizes.{Fitting};
-ghost use Rattle.clause_variables.specs.Numbers.{InFile};
-ghost use Rattle.clause_list.specs.Indices.{Within};
-ghost use Rattle.clause_text.specs.Pieces.{spacedText};
+ghost use Rattle.clause_sizes.specs.Sizes.{Fitting};
+ghost use Rattle.clause_sizes.specs.Numbers.{InFile};
+ghost use Rattle.clause_indices.specs.Indices.{Within};
+ghost use Rattle.clause_words.specs.Text.{spacedText};
 ghost use Rattle.clause_text.specs.Kept.{NoneKept, Kept, Found};
 ghost use Rattle.clause_text.specs.Blocks.{signed, pathLiteral, middleOf, pathSlot, pathTexts, middleSlot, middleTexts};
 
 // The sets of marks that there are at most.
 const MARKINGS: usize = 1 << Automaton::SETS;
 
-// Paths from one pair of states to one candidate state, by a reference state and the sets I and J. A text has at most 9 bytes.
+// Paths from one pair of states to one candidate state, by a reference state and the sets I and J. A literal may want 12 bytes.
 pub const PATHS: usize = Automaton::STATES * MARKINGS * MARKINGS;
 
 const PATH_WIDTH: usize = 16;
 
 pub const PATH_BYTES: usize = PATHS * PATH_WIDTH;
 
-// Steps between two candidate states with their marks, by a letter and the set K. No text is longer than a line.
+// Steps between two candidate states with their marks, by a letter and the set K.
 pub const MIDDLES: usize = Automaton::LETTERS * MARKINGS;
 
-const MIDDLE_WIDTH: usize = LINE;
+const MIDDLE_WIDTH: usize = CLAUSE * 12;
 
 pub const MIDDLE_BYTES: usize = MIDDLES * MIDDLE_WIDTH;
 
@@ -76,7 +74,10 @@ pub fn write_path(
 {
     let slot = (v.0 * z.candidate.subsets + i) * z.reference.subsets + j;
     let size = path_in_slot(z, minus, q, u, p, v, i, j, slot, kept, sizes);
-    copy(kept, slot * PATH_WIDTH, size, text, at)
+    let first = slot * PATH_WIDTH;
+    let end = first + size;
+    let all = &kept[..];
+    word(&all[first..end], text, at)
 }
 
 // Spells it in its slot where it is not there yet, and returns its length.
@@ -99,26 +100,21 @@ fn path_in_slot(
 {
     let size = sizes[slot];
     if size != 0 {
-        return wide(size);
+        return size as usize;
     }
     let variable = path_number(z, q, u, p, v, i, j);
     let size = keep_literal(minus, variable, kept, slot * PATH_WIDTH);
     sizes[slot] = size;
-    wide(size)
-}
-
-fn wide(size: u8) -> usize
-    ensures { λ r. ⌜ r ≡ size ⌝ }
-{
     size as usize
 }
 
 // Spells a literal in a slot, and returns the length of its text.
 fn keep_literal(minus: bool, variable: usize, kept: &mut [u8; PATH_BYTES], at: usize) -> u8
     requires { ⌜ (variable ≤ 4199424) × (at + 16 ≤ 65536) ⌝ }
-    ensures { λ r. ⌜ Wrote (now (kept .entry)) at (spacedText (signed minus variable ∷ [])) (now (kept .exit)) (at + r) ⌝ }
+    ensures { λ r. ⌜ Wrote (now (kept .entry)) at (spacedText (signed minus variable ∷ [])) (now (kept .exit)) (at + r) × (r ≤ 16) ⌝ }
 {
-    let end = write_spaced(literal(minus, variable), kept, at);
+    let literals = [literal(minus, variable)];
+    let end = write_literals(&literals, kept, at);
     (end - at) as u8
 }
 
@@ -142,15 +138,17 @@ pub fn write_middle(
     at: usize,
 ) -> usize
     requires { ⌜ Fitting z × Within z x ⌝ }
-    requires { ⌜ Kept (middleTexts z (x .p .0) (x .t .0)) 80 256 (now kept) (now sizes) ⌝ }
-    requires { ⌜ length (spacedText (middleOf z (x .p .0) (x .t .0) (x .l) (x .k))) ≤ 80 ⌝ }
+    requires { ⌜ Kept (middleTexts z (x .p .0) (x .t .0)) 96 256 (now kept) (now sizes) ⌝ }
     requires { ⌜ at + length (spacedText (middleOf z (x .p .0) (x .t .0) (x .l) (x .k))) ≤ length (now text) ⌝ }
-    ensures { λ r. ⌜ Kept (middleTexts z (x .p .0) (x .t .0)) 80 256 (now (kept .exit)) (now (sizes .exit)) ⌝ }
+    ensures { λ r. ⌜ Kept (middleTexts z (x .p .0) (x .t .0)) 96 256 (now (kept .exit)) (now (sizes .exit)) ⌝ }
     ensures { λ r. ⌜ Wrote (now (text .entry)) at (spacedText (middleOf z (x .p .0) (x .t .0) (x .l) (x .k))) (now (text .exit)) r ⌝ }
 {
     let slot = x.l * z.candidate.subsets + x.k;
     let size = middle_in_slot(z, x, slot, kept, sizes);
-    copy(kept, slot * MIDDLE_WIDTH, size, text, at)
+    let first = slot * MIDDLE_WIDTH;
+    let end = first + size;
+    let all = &kept[..];
+    word(&all[first..end], text, at)
 }
 
 // Spells them in their slot where they are not there yet, and returns the length of their text.
@@ -162,26 +160,25 @@ fn middle_in_slot(
     sizes: &mut [u8; MIDDLES],
 ) -> usize
     requires { ⌜ Fitting z × Within z x × (slot ≡ middleSlot z (x .l) (x .k)) ⌝ }
-    requires { ⌜ Kept (middleTexts z (x .p .0) (x .t .0)) 80 256 (now kept) (now sizes) ⌝ }
-    requires { ⌜ length (spacedText (middleOf z (x .p .0) (x .t .0) (x .l) (x .k))) ≤ 80 ⌝ }
-    ensures { λ r. ⌜ Found (middleTexts z (x .p .0) (x .t .0)) 80 256 (now (kept .exit)) (now (sizes .exit)) slot r ⌝ }
+    requires { ⌜ Kept (middleTexts z (x .p .0) (x .t .0)) 96 256 (now kept) (now sizes) ⌝ }
+    ensures { λ r. ⌜ Found (middleTexts z (x .p .0) (x .t .0)) 96 256 (now (kept .exit)) (now (sizes .exit)) slot r ⌝ }
 {
     let size = sizes[slot];
     if size != 0 {
-        return wide(size);
+        return size as usize;
     }
     let size = keep_middle(z, x, kept, slot * MIDDLE_WIDTH);
     sizes[slot] = size;
-    wide(size)
+    size as usize
 }
 
 fn keep_middle(z: Sizes, x: Indices, kept: &mut [u8; MIDDLE_BYTES], at: usize) -> u8
     requires { ⌜ Fitting z × Within z x ⌝ }
-    requires { ⌜ (length (spacedText (middleOf z (x .p .0) (x .t .0) (x .l) (x .k))) ≤ 80) × (at + 80 ≤ 20480) ⌝ }
-    ensures { λ r. ⌜ Wrote (now (kept .entry)) at (spacedText (middleOf z (x .p .0) (x .t .0) (x .l) (x .k))) (now (kept .exit)) (at + r) ⌝ }
+    requires { ⌜ at + 96 ≤ 24576 ⌝ }
+    ensures { λ r. ⌜ Wrote (now (kept .entry)) at (spacedText (middleOf z (x .p .0) (x .t .0) (x .l) (x .k))) (now (kept .exit)) (at + r) × (r ≤ 96) ⌝ }
 {
     let mut clause = [0i32; CLAUSE];
     let count = premise(z, x, &mut clause);
-    let end = write_literals(&clause, 1, count, kept, at);
+    let end = write_literals(&clause[1..count], kept, at);
     (end - at) as u8
 }

@@ -1,20 +1,14 @@
--- Bounds of the numbers on the way to a variable's number, and the negative of a variable.
-use mathlib.Core.Path.{_≡_, sym, ap, _∙_}
-use mathlib.Core.Bool.{Bool, true, false, false≢true}
-use Prim.Native.Nat.{ℕ, zero, suc, _+_, _*_, _^_, _≤_, _<_, min}
+-- Bounds of the numbers on the way to a variable's number.
+use mathlib.Core.Path.{_≡_}
+use Prim.Native.Nat.{ℕ, _+_, _*_, _≤_, _<_}
 use native.Mathlib.Nat.{mul-le-mul}
 use native.Mathlib.Omega.{arith}
 use lib.Arith.{digits-lt}
-use lib.IntN.{pos, negℤ, _-ℤ_, +ℤ-idl}
-use mir.Syntax.{w32}
-use mir.Val.{SFits, toZ}
-use mir.ValLaws.{toZ-pos}
-use Rattle.bits.specs.Powers.{power-is}
 use Rattle.encoding.specs.Variables.{step, mark, path}
-use Rattle.clause_variables.specs.declared.sizes.Sizes.{Sizes}
-use Rattle.clause_variables.specs.Sizes.{Fitting, measured}
-use Rattle.clause_variables.specs.Limits.{candidate-subsets-le, reference-subsets-le}
-use Rattle.clause_variables.specs.Numbers.{InFile, numberOf}
+use Rattle.clause_sizes.specs.declared.Sizes.{Sizes}
+use Rattle.clause_sizes.specs.Sizes.{Fitting}
+use Rattle.clause_sizes.specs.Limits.{candidate-subsets-le, reference-subsets-le}
+use Rattle.clause_sizes.specs.Numbers.{InFile, numberOf}
 
 -- one more digit below its base, after a number below a bound
 digit-lt : {a b base : ℕ} (c d : ℕ) → a < c → b < base → base ≤ d → a * base + b < c * d
@@ -57,30 +51,3 @@ module _ {z : Sizes} (f : Fitting z) where
       ≡ numberOf z (path q u p v I J)
   path-is q u p v I J =
       rw (f .marks-is, f .steps-is, f .candidate-subsets, f .reference-subsets)
-
--- ---- the negative of a variable
-
-pub negated : (v : ℕ) → v < 2147483648 → pos 0 -ℤ toZ w32 v ≡ negℤ (pos v)
-negated v h = ap (λ x. pos 0 -ℤ x) (toZ-pos w32 v h) ∙ +ℤ-idl (negℤ (pos v))
-
-pub negated-fits : (v : ℕ) → v < 2147483648 → SFits w32 (negℤ (pos v))
-negated-fits zero h = record { sfits = omega arith }
-negated-fits (suc k) h = record { sfits = omega arith }
-
--- ---- the sizes
-
-pub false-not : (b : Bool) → b ≡ false → b ≡ true → ⊥
-false-not b e h = false≢true (sym e ∙ h)
-
-pub measured-is : {n m states sets propositions L M S : ℕ} → m ≤ 4 → sets ≤ 4 → propositions ≤ 4
-    → L ≡ 2 ^ min propositions 4 → M ≡ 2 ^ min m 4 → S ≡ 2 ^ min sets 4
-    → _≡_ {A = Sizes}
-    (record {
-      candidate = record { states = n; sets = m; subsets = M };
-      reference = record { states = states; sets = sets; subsets = S };
-      letters = L;
-      steps = n * n * L;
-      marks = n * n * L + n * n * L * m;
-    })
-    (measured n m states sets propositions)
-measured-is hm hs hp eL eM eS = rw (power-is hp eL, power-is hm eM, power-is hs eS)

@@ -1,21 +1,13 @@
-// The variables of a clause file: its sizes, the numbers of its variables, and its literals.
-use crate::sizes::Counts;
-use crate::sizes::Sizes;
-use automaton::Automaton;
+// The numbers of the variables of a clause file, on all input; and for indices that were tested.
 use automaton::states::CandidateState;
 use automaton::states::ReferenceState;
-use bits::powers::power_of_two;
-ghost use mathlib.Core.Path.{_≡_};
-ghost use mathlib.Core.Logic.{_↔_};
-ghost use mathlib.Core.Bool.{true};
+use clause_sizes::Sizes;
+use clause_sizes::fitting;
 ghost use Rattle.encoding.specs.Variables.{step, mark, path};
-ghost use Rattle.clause_variables.specs.Sizes.{Fitting, Counting};
-ghost use Rattle.clause_variables.specs.Numbers.{NumberIfAny};
+ghost use Rattle.clause_sizes.specs.Numbers.{NumberIfAny};
 
-// For the crates above: their callers have tested the sizes and the indices.
-pub mod literals;
+// For the crates above, which have tested the sizes and the indices.
 pub mod numbers;
-pub mod sizes;
 
 // The number of step(q, l, p), or 0 where a file of these sizes has no such variable, or none has these sizes.
 pub fn step_variable(z: Sizes, q: CandidateState, l: usize, p: CandidateState) -> usize
@@ -68,32 +60,4 @@ pub fn path_variable(
         return 0;
     }
     numbers::path_number(z, q, u, p, v, i, j)
-}
-
-// Whether a file can have these sizes.
-fn fitting(z: Sizes) -> bool
-    ensures { λ r. ⌜ (r ≡ true) ↔ Fitting z ⌝ }
-{
-    let candidate = z.candidate;
-    if !counting(candidate, Automaton::CANDIDATE_STATES) {
-        return false;
-    }
-    let reference = z.reference;
-    if !counting(reference, Automaton::STATES) {
-        return false;
-    }
-    if !((1 <= z.letters) & (z.letters <= Automaton::LETTERS)) {
-        return false;
-    }
-    let steps = candidate.states * candidate.states * z.letters;
-    (z.steps == steps) & (z.marks == steps + steps * candidate.sets)
-}
-
-fn counting(c: Counts, most: usize) -> bool
-    ensures { λ r. ⌜ (r ≡ true) ↔ Counting most c ⌝ }
-{
-    (1 <= c.states)
-        & (c.states <= most)
-        & (c.sets <= Automaton::SETS)
-        & (c.subsets == power_of_two(c.sets))
 }

@@ -1,10 +1,10 @@
 // The numbers of the variables.
-use crate::sizes::Sizes;
 use automaton::states::CandidateState;
 use automaton::states::ReferenceState;
+use clause_sizes::Sizes;
 ghost use Rattle.encoding.specs.Variables.{step, mark, path};
-ghost use Rattle.clause_variables.specs.Sizes.{Fitting};
-ghost use Rattle.clause_variables.specs.Numbers.{InFile, Numbered};
+ghost use Rattle.clause_sizes.specs.Sizes.{Fitting};
+ghost use Rattle.clause_sizes.specs.Numbers.{InFile, Numbered};
 
 // step(q, l, p)
 pub fn step_number(z: Sizes, q: CandidateState, l: usize, p: CandidateState) -> usize

@@ -13,12 +13,12 @@ use Rattle.compare_shortest.specs.declared.Verdict.{Verdict}
 use Rattle.compare_shortest.specs.declared.Verdict.the-variants.{Same as None, Differ as Found, Unfit}
 use Rattle.compare.specs.declared.Comparison.{Comparison}
 use Rattle.compare.specs.declared.Comparison.the-variants.{Refused}
-use Rattle.compare.specs.Compared.{Compared, returned}
+use Rattle.compare.specs.Compared.{Compared, returned, prefixRoom, loopRoom}
 use Rattle.compare.specs.Searched.{Ready, Searched, answered}
 
 -- refusals: both buffers as they were
 module _ (a b : Automaton) (p l : List ℕ) where
-  pub prefix-short : length p < 256 → Compared a b p p l l (Refused (Short 256 (length p)))
+  pub prefix-short : length p < prefixRoom → Compared a b p p l l (Refused (Short prefixRoom (length p)))
   prefix-short h = record {
     short-prefix = λ g. (refl, refl, refl, refl);
     short-loop = λ g. absurd (omega arith);
@@ -28,8 +28,8 @@ module _ (a b : Automaton) (p l : List ℕ) where
     differ = λ g. absurd (omega arith);
   }
 
-  module _ (hp : 256 ≤ length p) where
-    pub loop-short : length l < 1280 → Compared a b p p l l (Refused (Short 1280 (length l)))
+  module _ (hp : prefixRoom ≤ length p) where
+    pub loop-short : length l < loopRoom → Compared a b p p l l (Refused (Short loopRoom (length l)))
     loop-short h = record {
       short-prefix = λ g. absurd (omega arith);
       short-loop = λ _ g. (refl, refl, refl, refl);
@@ -39,7 +39,7 @@ module _ (a b : Automaton) (p l : List ℕ) where
       differ = λ _ g. absurd (omega arith);
     }
 
-    module _ (hl : 1280 ≤ length l) where
+    module _ (hl : loopRoom ≤ length l) where
       pub one-outside : ¬ (Valid a × Valid b) → Compared a b p p l l (Refused Outside)
       one-outside n = record {
         short-prefix = λ g. absurd (omega arith);

@@ -10,7 +10,7 @@ use Rattle.meaning.specs.Decision.{Difference, flip, shows-every}
 use Rattle.automaton.specs.declared.Automaton.{Automaton}
 use Rattle.automaton.specs.View.{view}
 use Rattle.automaton.specs.ViewLaws.{view-every}
-use Rattle.compare.specs.Compared.{Witness}
+use Rattle.compare.specs.Compared.{Witness, prefixRoom, loopRoom}
 use Rattle.compare.specs.Differences.{Pair, Shown, comparable, shown-difference, difference-shown, shown-distinguishes}
 
 module _ {a b : Automaton} {H : List ℕ} (T : Pair a b H) where
@@ -23,10 +23,11 @@ module _ {a b : Automaton} {H : List ℕ} (T : Pair a b H) where
   N-le : N ≤ 256
   N-le = le-trans (mul-le-mul-left (a .states) (T .valid-b .states-le)) (mul-le-mul-right 16 (T .valid-a .states-le))
 
-  M-le : M ≤ 1280
+  M-le : M ≤ loopRoom
   M-le =
       let m : suc (max (a .sets) (b .sets)) ≤ 5 = omega (arith, T .valid-a .sets-le, T .valid-b .sets-le) in
-      le-trans (mul-le-mul-left (suc (max (a .sets) (b .sets))) N-le) (mul-le-mul-right 256 m)
+      let room : 5 * 256 ≤ loopRoom = omega arith in
+      le-trans (mul-le-mul-left (suc (max (a .sets) (b .sets))) N-le) (le-trans (mul-le-mul-right 256 m) room)
 
   -- the same loop shows it after a prefix of fewer than N letters
   nearer : (x y : List ℕ) → Shown a b H x y → (u : List ℕ) × Shown a b H u y × (length u < N)
@@ -43,14 +44,14 @@ module _ {a b : Automaton} {H : List ℕ} (T : Pair a b H) where
       (v, difference-shown T x v d, h)
 
   -- both fit the buffers
-  pub fitting : (x y : List ℕ) → Shown a b H x y → (u : List ℕ) × (v : List ℕ) × Shown a b H u v × (length u < 256) × (length v ≤ 1280)
+  pub fitting : (x y : List ℕ) → Shown a b H x y → (u : List ℕ) × (v : List ℕ) × Shown a b H u v × (length u < prefixRoom) × (length v ≤ loopRoom)
   fitting x y S =
       let (u, S₁, hu) = nearer x y S in
       let (v, S₂, hv) = shorter u y S₁ in
       (u, v, S₂, omega (arith, hu, N-le), le-trans hv M-le)
 
   -- a word than which none is shorter, of those that fit p and l bytes
-  pub least-witness : (x y : List ℕ) → Shown a b H x y → (p l : ℕ) → 256 ≤ p → 1280 ≤ l → length x ≤ p → length y ≤ l
+  pub least-witness : (x y : List ℕ) → Shown a b H x y → (p l : ℕ) → prefixRoom ≤ p → loopRoom ≤ l → length x ≤ p → length y ≤ l
       → ((u v : List ℕ) → Shown a b H u v → length u ≤ p → length v ≤ l → length x + length y ≤ length u + length v) → Witness a b x y
   least-witness x y S p l hp hl fits-x fits-y least =
       let (u, S₁, hu) = nearer x y S in

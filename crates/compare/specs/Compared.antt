@@ -27,10 +27,17 @@ pub record Witness (a b : Automaton) (x y : List ℕ) : Type 0 where
   pub prefix-lt : length x < a .states * b .states
   pub loop-le : length y ≤ suc (max (a .sets) (b .sets)) * (a .states * b .states)
 
--- both buffers are long enough: "prefix 256 and loop 1,280"
+-- "Buffers: prefix 256 and loop 1,280 (one byte a letter)"
+abbrev pub prefixRoom : ℕ
+prefixRoom = 256
+
+abbrev pub loopRoom : ℕ
+loopRoom = 1280
+
+-- both buffers are long enough
 pub record Room (prefix loop : List ℕ) : Type 0 where
-  pub prefix-room : 256 ≤ length prefix
-  pub loop-room : 1280 ≤ length loop
+  pub prefix-room : prefixRoom ≤ length prefix
+  pub loop-room : loopRoom ≤ length loop
 
 -- what the comparison is asked, and what becomes of it: the answer, and the buffers before and after
 module _ (a b : Automaton) (prefix prefix-after loop loop-after : List ℕ) (answer : Comparison) where
@@ -48,12 +55,12 @@ module _ (a b : Automaton) (prefix prefix-after loop loop-after : List ℕ) (ans
     pub witness : Witness a b x y
     pub number : returned answer ≡ some (row 12 (length x) (length y))
 
-  -- "Order: 13 (prefix before loop), 4 for handed values, .. 14, 12." Buffers: "prefix 256 and loop 1,280".
+  -- "Order: 13 (prefix before loop), 4 for handed values, .. 14, 12."
   pub record Compared : Type 0 where
-    pub short-prefix : length prefix < 256 → Untouched (Refused (Short 256 (length prefix))) (some (row 13 256 (length prefix)))
-    pub short-loop : 256 ≤ length prefix → length loop < 1280 → Untouched (Refused (Short 1280 (length loop))) (some (row 13 1280 (length loop)))
-    pub outside : 256 ≤ length prefix → 1280 ≤ length loop → ¬ (Valid a × Valid b) → Untouched (Refused Outside) (some (row 4 0 0))
-    pub letters : 256 ≤ length prefix → 1280 ≤ length loop → Valid a → Valid b → a .propositions ≢ b .propositions
+    pub short-prefix : length prefix < prefixRoom → Untouched (Refused (Short prefixRoom (length prefix))) (some (row 13 prefixRoom (length prefix)))
+    pub short-loop : prefixRoom ≤ length prefix → length loop < loopRoom → Untouched (Refused (Short loopRoom (length loop))) (some (row 13 loopRoom (length loop)))
+    pub outside : prefixRoom ≤ length prefix → loopRoom ≤ length loop → ¬ (Valid a × Valid b) → Untouched (Refused Outside) (some (row 4 0 0))
+    pub letters : prefixRoom ≤ length prefix → loopRoom ≤ length loop → Valid a → Valid b → a .propositions ≢ b .propositions
         → Untouched (Refused (Propositions (a .propositions) (b .propositions))) (some (row 14 (a .propositions) (b .propositions)))
-    pub same : 256 ≤ length prefix → 1280 ≤ length loop → Valid a → Valid b → a .propositions ≡ b .propositions → Agree (view a) (view b) → Untouched Same none
-    pub differ : 256 ≤ length prefix → 1280 ≤ length loop → Valid a → Valid b → a .propositions ≡ b .propositions → ¬ Agree (view a) (view b) → Shown
+    pub same : prefixRoom ≤ length prefix → loopRoom ≤ length loop → Valid a → Valid b → a .propositions ≡ b .propositions → Agree (view a) (view b) → Untouched Same none
+    pub differ : prefixRoom ≤ length prefix → loopRoom ≤ length loop → Valid a → Valid b → a .propositions ≡ b .propositions → ¬ Agree (view a) (view b) → Shown

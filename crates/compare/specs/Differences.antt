@@ -21,7 +21,8 @@ use Rattle.automaton.specs.View.{view}
 use Rattle.automaton.specs.ViewLaws.{view-formed}
 use Rattle.bits.specs.Powers.{power-le}
 use Rattle.automaton.specs.Letters.{letters-le}
-use Rattle.compare_shortest.specs.Difference.{entry, met, Shows, InRange, Below}
+use Rattle.compare_tables.specs.Tables.{entry, InRange, Below}
+use Rattle.compare_shortest.specs.Difference.{met, Shows}
 use Rattle.compare_shortest.specs.Met.{met-has, met-lt}
 use Rattle.compare.specs.Acceptance.{Judged, unlike, unlike-zero, zero-unlike}
 

@@ -17,7 +17,7 @@ use Rattle.compare_shortest.specs.Difference.{Shows, Fit}
 use Rattle.compare_shortest.specs.Order.{Answer, Answered, Within, Precedes}
 use Rattle.compare.specs.declared.Comparison.{Comparison}
 use Rattle.compare.specs.declared.Comparison.the-variants.{Same, Refused}
-use Rattle.compare.specs.Compared.{Witness}
+use Rattle.compare.specs.Compared.{Witness, prefixRoom, loopRoom}
 use Rattle.compare.specs.Differences.{Pair, Shown, in-range, none-agree}
 use Rattle.compare.specs.Bounds.{fitting, least-witness}
 
@@ -26,8 +26,8 @@ pub record Ready (a b : Automaton) (p l : ℕ) : Type 0 where
   pub valid-a : Valid a
   pub valid-b : Valid b
   pub same-propositions : a .propositions ≡ b .propositions
-  pub prefix-room : 256 ≤ p
-  pub loop-room : 1280 ≤ l
+  pub prefix-room : prefixRoom ≤ p
+  pub loop-room : loopRoom ≤ l
 
 -- a verdict of the search as an answer
 abbrev pub answered : Verdict → Comparison
@@ -55,7 +55,7 @@ abbrev pub Handed : Automaton → Automaton → ℕ → Type 0
 Handed a b L = Fit (a .destinations) (a .marks) (b .destinations) (b .marks) L (a .start) (b .start)
 
 -- from these words to the automata
-module _ {a b : Automaton} {H : List ℕ} (T : Pair a b H) (prefix prefix-after loop loop-after : List ℕ) (hp : 256 ≤ length prefix) (hl : 1280 ≤ length loop) where
+module _ {a b : Automaton} {H : List ℕ} (T : Pair a b H) (prefix prefix-after loop loop-after : List ℕ) (hp : prefixRoom ≤ length prefix) (hl : loopRoom ≤ length loop) where
   by-verdict : (r : Verdict) → Answer (Within (length prefix) (length loop) (Shown a b H)) prefix prefix-after loop loop-after r → Searched a b prefix prefix-after loop loop-after r
   by-verdict None (none, ep, el) = (
     none-agree T (λ x y S. (let (u, v, S₁, hu, hv) = fitting T x y S in none u v (record { shows = S₁; prefix-fits = omega arith; loop-fits = omega arith }))),

@@ -1,9 +1,19 @@
--- An answer about some words is one about the same words described otherwise.
+-- The answer on all input; and an answer about some words is one about the same words described otherwise.
+use mathlib.Core.Path.{refl}
 use mathlib.Core.List.{List}
 use Prim.Native.Nat.{ℕ}
+use lib.ListN.{length}
 use Rattle.compare_shortest.specs.declared.Verdict.{Verdict}
 use Rattle.compare_shortest.specs.declared.Verdict.the-variants.{Same, Differ, Unfit}
-use Rattle.compare_shortest.specs.Order.{Within, Answer}
+use Rattle.compare_shortest.specs.Order.{Within, Answer, Answered}
+
+module _ {Fits : Type 0} {Q : List ℕ → List ℕ → Type 0} {prefix cycle : List ℕ} where
+  pub answered-unfit : ¬ Fits → Answered Fits Q prefix prefix cycle cycle Unfit
+  answered-unfit n = record { unfit = λ _. (refl, refl, refl); searched = λ f. absurd (n f) }
+
+  pub answered-fit : {written-prefix written-cycle : List ℕ} {r : Verdict} → Fits
+      → Answer (Within (length prefix) (length cycle) Q) prefix written-prefix cycle written-cycle r → Answered Fits Q prefix written-prefix cycle written-cycle r
+  answered-fit f a = record { unfit = λ n. absurd (n f); searched = λ _. a }
 
 module _ {Q R : List ℕ → List ℕ → Type 0} (prefix written-prefix cycle written-cycle : List ℕ) where
   pub answer-same : ((x y : List ℕ) → Q x y → R x y) → ((x y : List ℕ) → R x y → Q x y) → (r : Verdict)

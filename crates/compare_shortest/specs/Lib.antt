@@ -10,7 +10,6 @@ pub mod SearchComplete
 pub mod ReadBack
 pub mod Sizes
 pub mod Graph
-pub mod Entries
 pub mod Packing
 pub mod Seen
 pub mod Workspace

@@ -9,7 +9,8 @@ use Rattle.meaning.specs.BitSet.{has}
 use Rattle.meaning.specs.BitSetLaws.{has-or, has-zero}
 use Rattle.meaning.specs.Walk.{run, meets}
 use Rattle.meaning.specs.Agreement.{Over}
-use Rattle.compare_shortest.specs.Difference.{entry, met, Below}
+use Rattle.compare_tables.specs.Tables.{entry, Below}
+use Rattle.compare_shortest.specs.Difference.{met}
 
 -- it leads to states, and meets sets of marks, below 16
 module _ {L : ℕ} where

@@ -8,7 +8,8 @@ use lib.Bits.{bitOr, or-lt, or-comm, or-block, or-zero-l, or-zero-r}
 use Rattle.meaning.specs.Walk.{run}
 use Rattle.meaning.specs.Agreement.{Over}
 use Rattle.compare_shortest.specs.Graph.{at, succ, Hit, HitLoop, HitLasso}
-use Rattle.compare_shortest.specs.Difference.{entry, met, Below, Fit, Shows}
+use Rattle.compare_tables.specs.Tables.{entry, Below}
+use Rattle.compare_shortest.specs.Difference.{met, Fit, Shows}
 use Rattle.compare_shortest.specs.declared.Verdict.{Verdict}
 use Rattle.compare_shortest.specs.Order.{Within, Answer}
 use Rattle.compare_shortest.specs.Answers.{answer-same, within-same}

@@ -6,7 +6,7 @@ use native.Mathlib.Omega.{arith}
 use lib.ListN.{length, set, length-set}
 use Rattle.meaning.specs.CountingLaws.{filled-next}
 use Rattle.compare_shortest.specs.Graph.{at}
-use Rattle.compare_shortest.specs.Difference.{Below}
+use Rattle.compare_tables.specs.Tables.{Below}
 
 -- the entries of two tables for the number i of a pair of states and a letter, as one number
 abbrev pub pairAt : List ℕ → List ℕ → ℕ → ℕ

@@ -11,7 +11,6 @@ mod lasso;
 mod places;
 mod product;
 mod search;
-mod tables;
 mod word;
 
 // Sets of marks of one automaton.
@@ -65,10 +64,10 @@ pub fn difference<'a, 'b>(
     if letters > Automaton::LETTERS {
         return Verdict::Unfit;
     }
-    if !tables::in_range(next_a, marks_a, start_a) {
+    if !compare_tables::in_range(next_a, marks_a, start_a) {
         return Verdict::Unfit;
     }
-    if !tables::in_range(next_b, marks_b, start_b) {
+    if !compare_tables::in_range(next_b, marks_b, start_b) {
         return Verdict::Unfit;
     }
     first_word(

@@ -5,7 +5,7 @@ use automaton::Automaton;
 ghost use mathlib.Core.Path.{_≡_};
 ghost use Prim.Native.Nat.{_<_};
 ghost use lib.ListN.{length};
-ghost use Rattle.compare_shortest.specs.Difference.{Below};
+ghost use Rattle.compare_tables.specs.Tables.{Below};
 ghost use Rattle.compare_shortest.specs.Sizes.{hitCount, stepCount};
 ghost use Rattle.compare_shortest.specs.ProductTables.{pairAt, Tables};
 

@@ -10,13 +10,14 @@ use Rattle.automaton.specs.declared.Automaton.{Automaton}
 use Rattle.refusals.specs.declared.Refusal.{Refusal}
 use Rattle.refusals.specs.Refused.{codeOf}
 use Rattle.automaton.specs.Value.{Valid}
-use Rattle.clause_variables.specs.Sizes.{Dimensioned}
+use Rattle.compare.specs.Compared.{prefixRoom, loopRoom}
+use Rattle.clause_sizes.specs.Sizes.{Dimensioned}
 use Rattle.encoding.specs.Clauses.{Assignment}
 use Rattle.solver_text.specs.declared.Reader.{Reader}
 use Rattle.solver_text.specs.declared.Answer.{Answer}
 use Rattle.solver_text.specs.declared.Answer.the-variants.{Accepted, Refused}
-use Rattle.solver_text.specs.declared.scan.Verdict.{Verdict}
-use Rattle.solver_text.specs.declared.scan.Verdict.the-variants.{Unstated, Satisfiable, Unsatisfiable, Unknown as NotKnown}
+use Rattle.solver_scan.specs.declared.Verdict.{Verdict}
+use Rattle.solver_scan.specs.declared.Verdict.the-variants.{Unstated, Satisfiable, Unsatisfiable, Unknown as NotKnown}
 use Rattle.solver_text.specs.Calls.{InRange}
 use Rattle.decode.specs.declared.Answer.{Answer as Decision}
 use Rattle.decode.specs.declared.Answer.the-variants.{Table, None, Unknown, Refused as TurnedDown}
@@ -77,7 +78,7 @@ module _ {p p′ l l′ : List ℕ} {x : Decoded} {a : Automaton} {n m : ℕ} {r
       offset = same g _ (d .text t g e .0) refl ∙ offset-refused _ _ g e .1;
     })
 
-    by-call : 256 ≤ length p → 1280 ≤ length l → ⊥
+    by-call : prefixRoom ≤ length p → loopRoom ≤ length l → ⊥
     by-call h g =
         other _ (d .automaton h g (λ v.
         other _ (d .state h g (λ i.
@@ -87,10 +88,10 @@ module _ {p p′ l l′ : List ℕ} {x : Decoded} {a : Automaton} {n m : ℕ} {r
         (inl (omega arith))) .0)
         (inl (omega arith))
 
-    by-room : Dec (256 ≤ length p) → Dec (1280 ≤ length l) → ⊥
+    by-room : Dec (prefixRoom ≤ length p) → Dec (loopRoom ≤ length l) → ⊥
     by-room (no h) g = other _ (d .short-prefix (omega arith) .0) (inr (omega arith))
     by-room (yes h) (no g) = other _ (d .short-loop h (omega arith) .0) (inr (omega arith))
     by-room (yes h) (yes g) = by-call h g
 
   pub by-text : ¬ ¬ ByText a n m r f
-  by-text never = by-room never (decLe 256 (length p)) (decLe 1280 (length l))
+  by-text never = by-room never (decLe prefixRoom (length p)) (decLe loopRoom (length l))

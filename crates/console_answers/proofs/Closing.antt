@@ -9,18 +9,20 @@ use lib.ListN.{length}
 use Rattle.automaton.specs.declared.Automaton.{Automaton}
 use Rattle.refusals.specs.declared.Refusal.{Refusal}
 use Rattle.refusals.specs.declared.Refusal.the-variants.{SolverForm, Literal}
+use Rattle.compare.specs.Compared.{prefixRoom, loopRoom}
 use Rattle.solver_text.specs.declared.Reader.{Reader}
 use Rattle.solver_text.specs.declared.Answer.the-variants.{Refused}
-use Rattle.solver_text.specs.declared.scan.Place.{Place as Spot}
-use Rattle.solver_text.specs.declared.scan.Place.the-variants.{Start, Comment, AfterS, BeforeWord, Word, AfterWord, AfterToken, BeforeToken, AfterMinus, Digits, Ended, BadForm, BadLiteral}
-use Rattle.solver_text.specs.Machine.{refusedAt, answerAt, told}
+use Rattle.solver_scan.specs.declared.Place.{Place as Spot}
+use Rattle.solver_scan.specs.declared.Place.the-variants.{Start, Comment, AfterS, BeforeWord, Word, AfterWord, AfterToken, BeforeToken, AfterMinus, Digits, Ended, BadForm, BadLiteral}
+use Rattle.solver_scan.specs.Scanning.{refusedAt}
+use Rattle.solver_text.specs.Machine.{answerAt, told}
 use Rattle.solver_text.specs.Calls.{last, kept}
 use Rattle.decode.specs.declared.Answer.{Answer as Decision}
 use Rattle.decode.specs.declared.Answer.the-variants.{Table, None, Unknown, Refused as TurnedDown}
 use Rattle.decode.specs.declared.Decoded.{Decoded}
 use Rattle.decode.specs.Answers.{Decodes}
 use Rattle.console_answers.specs.SoFar.{Closed}
-use Rattle.solver_text.specs.Staying.{refused-end}
+use Rattle.solver_agreement.specs.Staying.{refused-end}
 
 abbrev refusing : Decision → ℕ
 refusing Table = 0
@@ -50,7 +52,7 @@ refusal-at BadLiteral at e = (Literal at, refl)
 
 module _ {p p′ l l′ : List ℕ} {x : Decoded} {a : Automaton} {n m : ℕ} {r : Reader} (d : Decodes p p′ l l′ x a n m r) (c : Closed a n m r) where
   module _ (never : (f : Refusal) → x .answer ≡ TurnedDown f → ⊥) where
-    by-call : 256 ≤ length p → 1280 ≤ length l → ⊥
+    by-call : prefixRoom ≤ length p → loopRoom ≤ length l → ⊥
     by-call h g =
         never _ (ap (λ y. y .answer) (d .automaton h g (λ v.
         never _ (ap (λ y. y .answer) (d .state h g (λ i.
@@ -59,7 +61,7 @@ module _ {p p′ l l′ : List ℕ} {x : Decoded} {a : Automaton} {n m : ℕ} {r
         never f (ap (λ y. y .answer) (d .text (record { prefix-room = h; loop-room = g; valid = v; in-range = i; sizes = z }) f
         (ap (λ x. told x .answer) (refused-end (last a n m) (kept a n m) r (c v z)) ∙ e) .0))) .0))) .0))) .0))
 
-    by-room : Dec (256 ≤ length p) → Dec (1280 ≤ length l) → ⊥
+    by-room : Dec (prefixRoom ≤ length p) → Dec (loopRoom ≤ length l) → ⊥
     by-room (no h) g = never _ (ap (λ y. y .answer) (d .short-prefix (omega arith) .0))
     by-room (yes h) (no g) = never _ (ap (λ y. y .answer) (d .short-loop h (omega arith) .0))
     by-room (yes h) (yes g) = by-call h g
@@ -68,7 +70,7 @@ module _ {p p′ l l′ : List ℕ} {x : Decoded} {a : Automaton} {n m : ℕ} {r
   closed-refusal = go (x .answer) refl
     where
       answered : refusing (x .answer) ≡ 0 → ⊥
-      answered h = by-room (λ f. decided h) (decLe 256 (length p)) (decLe 1280 (length l))
+      answered h = by-room (λ f. decided h) (decLe prefixRoom (length p)) (decLe loopRoom (length l))
 
       go : (w : Decision) → x .answer ≡ w → (f : Refusal) × (x .answer ≡ TurnedDown f)
       go Table e = absurd (answered (ap refusing e))

@@ -8,10 +8,11 @@ use Rattle.automaton.specs.declared.Automaton.{Automaton}
 use Rattle.refusals.specs.declared.Refusal.{Refusal}
 use Rattle.refusals.specs.declared.Refusal.the-variants.{SolverForm, Literal}
 use Rattle.refusals.specs.Refused.{codeOf}
-use Rattle.solver_text.specs.Machine.{fresh, refusedAt}
+use Rattle.solver_scan.specs.Scanning.{refusedAt}
+use Rattle.solver_text.specs.Machine.{fresh}
 use Rattle.solver_text.specs.Calls.{Reads, joined, last, kept}
-use Rattle.solver_text.specs.Staying.{refused-end}
-use Rattle.solver_text.specs.Cases.{by}
+use Rattle.solver_agreement.specs.Staying.{refused-end}
+use Rattle.solver_scan.specs.Cases.{by}
 use Rattle.decode.specs.declared.Answer.the-variants.{Refused as TurnedDown}
 use Rattle.decode.specs.Answers.{Decodes}
 use Rattle.console_places.specs.Places.{within, placeOf}

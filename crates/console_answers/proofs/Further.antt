@@ -11,17 +11,18 @@ use Rattle.automaton.specs.declared.Automaton.{Automaton}
 use Rattle.refusals.specs.declared.Refusal.{Refusal}
 use Rattle.refusals.specs.Refused.{codeOf}
 use Rattle.automaton.specs.Value.{Valid}
-use Rattle.clause_variables.specs.Sizes.{Dimensioned}
+use Rattle.clause_sizes.specs.Sizes.{Dimensioned}
 use Rattle.solver_text.specs.declared.Reader.{Reader}
 use Rattle.solver_text.specs.declared.Reply.{Reply}
 use Rattle.solver_text.specs.declared.Answer.{Answer}
 use Rattle.solver_text.specs.declared.Answer.the-variants.{Accepted, Refused}
-use Rattle.solver_text.specs.Machine.{fresh, told, run, refusedAt}
+use Rattle.solver_scan.specs.Scanning.{refusedAt}
+use Rattle.solver_text.specs.Machine.{fresh, told, run}
 use Rattle.solver_text.specs.Calls.{InRange, Called, Reads, none, joined, last, kept}
-use Rattle.solver_text.specs.Cases.{by}
-use Rattle.solver_text.specs.Pieces.{pieces, fresh-range}
-use Rattle.solver_text.specs.Range.{run-kept}
-use Rattle.solver_text.specs.Further.{reads-more, joined-more}
+use Rattle.solver_scan.specs.Cases.{by}
+use Rattle.solver_agreement.specs.Pieces.{pieces, fresh-range}
+use Rattle.solver_agreement.specs.Range.{run-kept}
+use Rattle.solver_agreement.specs.Further.{reads-more, joined-more}
 use Rattle.console_places.specs.declared.Place.{Place}
 use Rattle.console_places.specs.Places.{first, after, within, placeOf}
 use Rattle.console_answers.specs.declared.Heard.{Heard}

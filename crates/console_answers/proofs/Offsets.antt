@@ -9,19 +9,20 @@ use native.Mathlib.Decide.{decLt}
 use native.Mathlib.Omega.{arith}
 use borrow.Author.Tests.{leb-true, eqb-false, ne-eqb}
 use lib.Dec.{ltb, leb, eqb}
-use lib.IntN.{ℤ, natAbs}
-use lib.ListN.{length, drop, getD, length-append}
+use lib.ListN.{length, drop, length-append}
 use lib.Seq.{drop-append-seam, drop-append-le}
 use Rattle.meaning.specs.TestLaws.{and-left}
 use Rattle.console_places.specs.PlaceLaws.{feeds, feeds-append}
 use Rattle.solver_text.specs.declared.Reader.{Reader}
-use Rattle.solver_text.specs.declared.scan.Scan.{Scan}
-use Rattle.solver_text.specs.declared.scan.Place.{Place}
-use Rattle.solver_text.specs.declared.scan.Place.the-variants.{Start, Comment, AfterS, BeforeWord, Word, AfterWord, AfterToken, BeforeToken, AfterMinus, Digits, Ended, BadForm, BadLiteral}
-use Rattle.solver_text.specs.SolverText.{blank, digit, digit19, word, unstated, satisfiable, literalOf}
-use Rattle.solver_text.specs.Machine.{unfitting, bad, atStart, inComment, afterS, beforeWord, spelt, follows, turns, nextLetter, wordDone, inWord, afterWord, afterToken, firstByte, tokenByte, beforeToken, afterMinus, settle, inDigits, byPlace, refusedAt, atLimit, step, run, judge, judgeWord, endAt, end, fresh}
-use Rattle.solver_text.specs.Cases.{by, either, either-way}
-use Rattle.solver_text.specs.Staying.{refused-byte, refused-run}
+use Rattle.solver_scan.specs.declared.Scan.{Scan}
+use Rattle.solver_scan.specs.declared.Place.{Place}
+use Rattle.solver_scan.specs.declared.Place.the-variants.{Start, Comment, AfterS, BeforeWord, Word, AfterWord, AfterToken, BeforeToken, AfterMinus, Digits, Ended, BadForm, BadLiteral}
+use Rattle.solver_scan.specs.SolverText.{blank, digit, digit19, word, unstated, satisfiable, literalOf}
+use Rattle.solver_scan.specs.Scanning.{bad, atStart, inComment, afterS, beforeWord, spelt, follows, turns, nextLetter, wordDone, inWord, afterWord, afterToken, firstByte, tokenByte, beforeToken, afterMinus, inDigits, byPlace, refusedAt, atLimit, scanByte, judge, judgeWord, scanEndAt}
+use Rattle.solver_literals.specs.Giving.{fits}
+use Rattle.solver_text.specs.Machine.{unfitting, ending, inLiteral, endsLiteral, landed, step, run, endAt, end, fresh}
+use Rattle.solver_scan.specs.Cases.{by, either, either-way}
+use Rattle.solver_agreement.specs.Staying.{refused-byte, refused-run}
 
 -- ---- lines
 
@@ -147,69 +148,81 @@ module _ (t : List ℕ) (s : Scan) (b : ℕ) (h : Counted t s) (o : refusedAt (s
     on : {x : Scan} → x .at ≡ s .at + 1 → refusedAt (x .place) ≡ false → literal (x .place) ≡ false → Next t b x
     on e f g = literal-on e f (λ k. absurd (true≢false (sym k ∙ g)))
 
-    module _ (last kept : ℕ) (named : List ℕ) where
-      abbrev Byte : Reader → Type 0
-      Byte r = Next t b (r .scan)
+    by-place : (p : Place) → s .place ≡ p → Next t b (byPlace p s b)
+    unfolding refusedAt literal byPlace atStart inComment afterS beforeWord nextLetter wordDone inWord afterWord afterToken firstByte tokenByte beforeToken afterMinus inDigits
+    by-place p e = go p e
+      where
+        N : Scan → Type 0
+        N x = Next t b x
 
-      settles : (l : ℤ) (next : Scan) → OnLine t (s .from) → Next t b next → Byte (settle last kept l s next named)
-      unfolding settle
-      settles l next f g =
-          either-way Byte (ltb last (natAbs l)) (unfits f)
-          (either-way Byte (ltb kept (natAbs l)) g (either-way Byte (eqb (getD named (natAbs l) 0) 0) g (unfits f)))
+        go : (p : Place) → s .place ≡ p → N (byPlace p s b)
+        go Start e =
+            either-way N (eqb b 10) (on refl refl refl)
+            (either-way N (eqb b 99) (on refl refl refl)
+            (either-way N (eqb b 115) (either-way N (unstated (s .verdict)) (on refl refl refl) fails) (either-way N (eqb b 118) (on refl refl refl) fails)))
+        go Comment e = either-way N (eqb b 10) (on refl refl refl) (either-way N (ltb b 256) (on refl refl refl) fails)
+        go AfterS e = either-way N (blank b) (on refl refl refl) fails
+        go BeforeWord e =
+            either-way N (blank b) (on refl refl refl)
+            (either-way N (eqb b 83) (on refl refl refl) (either-way N (eqb b 85) (on refl refl refl) fails))
+        go Word e =
+            either-way N (blank b) (either-way N (spelt (s .verdict) (s .letters)) (on refl refl refl) fails)
+            (either-way N (eqb b 10) (either-way N (spelt (s .verdict) (s .letters)) (on refl refl refl) fails)
+            (either-way N (follows (word (s .verdict)) (s .letters) b) (on refl refl refl)
+            (either-way N (turns (s .verdict) (s .letters) b) (on refl refl refl) fails)))
+        go AfterWord e = either-way N (blank b) (on refl refl refl) (either-way N (eqb b 10) (on refl refl refl) fails)
+        go AfterToken e = either-way N (blank b) (on refl refl refl) (either-way N (eqb b 10) (on refl refl refl) fails)
+        go BeforeToken e =
+            either-way N (blank b) (on refl refl refl)
+            (either N (eqb b 10) (λ _. on refl refl refl)
+            (λ k.
+            let begins : OnLine (t ++ (b ∷ [])) (s .at) = subst (OnLine (t ++ (b ∷ []))) (sym (h .all o)) (line-begins t b k) in
+            either-way N (s .closed) fails
+            (either-way N (eqb b 45) (literal-on refl refl (λ _. begins))
+            (either-way N (eqb b 48) (on refl refl refl) (either-way N (digit19 b) (literal-on refl refl (λ _. begins)) fails)))))
+        go AfterMinus e =
+            let f : OnLine t (s .from) = h .line (ap literal e) in
+            either N (digit19 b) (λ d. literal-on refl refl (λ _. line-goes-on t b (s .from) (digit-no-feed b d) f)) (λ _. fails)
+        go Digits e =
+            let f : OnLine t (s .from) = h .line (ap literal e) in
+            either-way N (blank b) (on refl refl refl)
+            (either N (eqb b 10) (λ _. on refl refl refl)
+            (λ k. either-way N (digit b) (literal-on refl refl (λ _. line-goes-on t b (s .from) k f)) fails))
+        go Ended e = fails
+        go BadForm e = absurd (true≢false (sym (ap refusedAt e) ∙ o))
+        go BadLiteral e = absurd (true≢false (sym (ap refusedAt e) ∙ o))
 
-      by-place : (p : Place) → s .place ≡ p → Byte (byPlace p last kept s named b)
-      unfolding refusedAt literal byPlace atStart inComment afterS beforeWord nextLetter wordDone inWord afterWord afterToken firstByte tokenByte beforeToken afterMinus inDigits
-      by-place p e = go p e
-        where
-          N : Scan → Type 0
-          N x = Next t b x
-
-          go : (p : Place) → s .place ≡ p → Byte (byPlace p last kept s named b)
-          go Start e =
-              either-way N (eqb b 10) (on refl refl refl)
-              (either-way N (eqb b 99) (on refl refl refl)
-              (either-way N (eqb b 115) (either-way N (unstated (s .verdict)) (on refl refl refl) fails) (either-way N (eqb b 118) (on refl refl refl) fails)))
-          go Comment e = either-way N (eqb b 10) (on refl refl refl) (either-way N (ltb b 256) (on refl refl refl) fails)
-          go AfterS e = either-way N (blank b) (on refl refl refl) fails
-          go BeforeWord e =
-              either-way N (blank b) (on refl refl refl)
-              (either-way N (eqb b 83) (on refl refl refl) (either-way N (eqb b 85) (on refl refl refl) fails))
-          go Word e =
-              either-way N (blank b) (either-way N (spelt (s .verdict) (s .letters)) (on refl refl refl) fails)
-              (either-way N (eqb b 10) (either-way N (spelt (s .verdict) (s .letters)) (on refl refl refl) fails)
-              (either-way N (follows (word (s .verdict)) (s .letters) b) (on refl refl refl)
-              (either-way N (turns (s .verdict) (s .letters) b) (on refl refl refl) fails)))
-          go AfterWord e = either-way N (blank b) (on refl refl refl) (either-way N (eqb b 10) (on refl refl refl) fails)
-          go AfterToken e = either-way N (blank b) (on refl refl refl) (either-way N (eqb b 10) (on refl refl refl) fails)
-          go BeforeToken e =
-              either-way N (blank b) (on refl refl refl)
-              (either N (eqb b 10) (λ _. on refl refl refl)
-              (λ k.
-              let begins : OnLine (t ++ (b ∷ [])) (s .at) = subst (OnLine (t ++ (b ∷ []))) (sym (h .all o)) (line-begins t b k) in
-              either-way N (s .closed) fails
-              (either-way N (eqb b 45) (literal-on refl refl (λ _. begins))
-              (either-way N (eqb b 48) (on refl refl refl) (either-way N (digit19 b) (literal-on refl refl (λ _. begins)) fails)))))
-          go AfterMinus e =
-              let f : OnLine t (s .from) = h .line (ap literal e) in
-              either N (digit19 b) (λ d. literal-on refl refl (λ _. line-goes-on t b (s .from) (digit-no-feed b d) f)) (λ _. fails)
-          go Digits e =
-              let f : OnLine t (s .from) = h .line (ap literal e) in
-              either-way Byte (blank b) (settles _ _ f (on refl refl refl))
-              (either Byte (eqb b 10) (λ _. settles _ _ f (on refl refl refl))
-              (λ k. either-way Byte (digit b) (literal-on refl refl (λ _. line-goes-on t b (s .from) k f)) fails))
-          go Ended e = fails
-          go BadForm e = absurd (true≢false (sym (ap refusedAt e) ∙ o))
-          go BadLiteral e = absurd (true≢false (sym (ap refusedAt e) ∙ o))
+-- a literal is read there
+in-literal : (p : Place) → inLiteral p ≡ true → literal p ≡ true
+unfolding inLiteral literal
+in-literal Start h = absurd (false≢true h)
+in-literal Comment h = absurd (false≢true h)
+in-literal AfterS h = absurd (false≢true h)
+in-literal BeforeWord h = absurd (false≢true h)
+in-literal Word h = absurd (false≢true h)
+in-literal AfterWord h = absurd (false≢true h)
+in-literal AfterToken h = absurd (false≢true h)
+in-literal BeforeToken h = absurd (false≢true h)
+in-literal AfterMinus h = refl
+in-literal Digits h = refl
+in-literal Ended h = absurd (false≢true h)
+in-literal BadForm h = absurd (false≢true h)
+in-literal BadLiteral h = absurd (false≢true h)
 
 module _ (last kept : ℕ) where
   step-next : (t : List ℕ) (r : Reader) (b : ℕ) → Counted t (r .scan) → refusedAt (r .scan .place) ≡ false
       → Next t b (step last kept (r .scan) (r .named) b .scan)
-  unfolding step atLimit
+  unfolding step landed endsLiteral ending scanByte atLimit
   step-next t r b h o =
-      either (λ (x : Reader). Next t b (x .scan)) (eqb (r .scan .at) 4294967295)
-      (λ _. either (λ x. Next t b x) (refusedAt (r .scan .place)) (λ e. absurd (true≢false (sym e ∙ o))) (λ _. fails t (r .scan) b h o))
-      (λ e. let k = eqb-false (r .scan .at) 4294967295 e in
-      by-place t (r .scan) b h o (omega (arith, h .limit)) last kept (r .named) (r .scan .place) refl)
+      let s = r .scan in
+      let N : Scan → Type 0 = λ x. Next t b x in
+      let next : N (scanByte s b) =
+      either N (eqb (s .at) 4294967295) (λ _. either N (refusedAt (s .place)) (λ e. absurd (true≢false (sym e ∙ o))) (λ _. fails t s b h o))
+      (λ e. let k = eqb-false (s .at) 4294967295 e in by-place t s b h o (omega (arith, h .limit)) (s .place) refl) in
+      either (λ (x : Reader). N (x .scan)) (endsLiteral (s .place) (scanByte s b .place))
+      (λ e. either-way N (fits last kept (literalOf (s .minus) (s .value)) (r .named)) next
+      (unfits t s b h o (h .line (in-literal (s .place) (and-left (inLiteral (s .place)) _ e)))))
+      (λ _. next)
 
   -- ---- a piece u behind t
 
@@ -243,7 +256,7 @@ module _ (last kept : ℕ) where
   -- ---- the end of the text t
 
   pub end-from : (t : List ℕ) (r : Reader) → Counted t (r .scan) → refusedAt (r .scan .place) ≡ false → From t (end last kept r .scan .at)
-  unfolding judge judgeWord settle endAt literal
+  unfolding judge judgeWord ending endAt inLiteral scanEndAt literal
   end-from t r h o = go (r .scan .place) refl
     where
       s : Scan
@@ -251,9 +264,6 @@ module _ (last kept : ℕ) where
 
       S : Scan → Type 0
       S x = From t (x .at)
-
-      R : Reader → Type 0
-      R x = From t (x .scan .at)
 
       here : From t (r .scan .at)
       here = inl (omega (arith, h .all o))
@@ -274,9 +284,7 @@ module _ (last kept : ℕ) where
       go BeforeToken e = judged
       go AfterMinus e = here
       go Digits e =
-          let l = literalOf (s .minus) (s .value) in
-          let f : From t (s .from) = inr (h .line (ap literal e)) in
-          either-way R (ltb last (natAbs l)) f (either-way R (ltb kept (natAbs l)) judged (either-way R (eqb (getD (r .named) (natAbs l) 0) 0) judged f))
+          either-way S (fits last kept (literalOf (s .minus) (s .value)) (r .named)) judged (inr (h .line (ap literal e)))
       go Ended e = here
       go BadForm e = here
       go BadLiteral e = here

@@ -11,18 +11,20 @@ use lib.ListN.{length, take, drop, take-append-drop, length-drop}
 use lib.Seq.{length-take-le, take-take, take-length, take-nil, take-append-le}
 use Rattle.console_places.specs.declared.Place.{Place}
 use Rattle.console_places.specs.Places.{first, after, placeOf, back, within}
-use Rattle.console_places.specs.PlaceLaws.{place, place-counts, after-append, within-piece, within-line}
+use Rattle.console_places.specs.PlaceLaws.{place-counts, after-append, within-piece, within-line}
 use Rattle.console_answers.proofs.Offsets.{From}
 
 -- two places are the same, unless they are not
 pub place-stable : (p q : Place) → ¬ ¬ (p ≡ q) → p ≡ q
-place-stable p q h = go (ℕ-discrete (p .offset) (q .offset)) (ℕ-discrete (p .line) (q .line)) (ℕ-discrete (p .column) (q .column))
+place-stable p q h =
+    go (ℕ-discrete (p .offset) (q .offset)) (ℕ-discrete (p .line) (q .line)) (ℕ-discrete (p .column) (q .column)) (ℕ-discrete (p .byte) (q .byte))
   where
-    go : Dec (p .offset ≡ q .offset) → Dec (p .line ≡ q .line) → Dec (p .column ≡ q .column) → p ≡ q
-    go (yes o) (yes l) (yes c) = λ i. place (o i) (l i) (c i)
-    go (no o) l c = absurd (h (λ e. o (ap (λ x. x .offset) e)))
-    go (yes o) (no l) c = absurd (h (λ e. l (ap (λ x. x .line) e)))
-    go (yes o) (yes l) (no c) = absurd (h (λ e. c (ap (λ x. x .column) e)))
+    go : Dec (p .offset ≡ q .offset) → Dec (p .line ≡ q .line) → Dec (p .column ≡ q .column) → Dec (p .byte ≡ q .byte) → p ≡ q
+    go (yes o) (yes l) (yes c) (yes b) = λ i. record { offset = o i; line = l i; column = c i; byte = b i }
+    go (no o) l c b = absurd (h (λ e. o (ap (λ x. x .offset) e)))
+    go (yes o) (no l) c b = absurd (h (λ e. l (ap (λ x. x .line) e)))
+    go (yes o) (yes l) (no c) b = absurd (h (λ e. c (ap (λ x. x .column) e)))
+    go (yes o) (yes l) (yes c) (no b) = absurd (h (λ e. b (ap (λ x. x .byte) e)))
 
 -- the filled part of a buffer is not empty
 pub piece-some : (n room : ℕ) (xs u : List ℕ) → u ≡ take n xs → n ≤ room → room ≡ length xs → ¬ (n ≡ 0) → (0 < length u) × (length u ≤ room)

@@ -11,9 +11,10 @@ use Rattle.refusals.specs.Refused.{codeOf}
 use Rattle.solver_text.specs.declared.Reader.{Reader}
 use Rattle.solver_text.specs.declared.Answer.{Answer}
 use Rattle.solver_text.specs.declared.Answer.the-variants.{Accepted, Refused}
-use Rattle.solver_text.specs.declared.scan.Place.{Place as Spot}
-use Rattle.solver_text.specs.declared.scan.Place.the-variants.{Start, Comment, AfterS, BeforeWord, Word, AfterWord, AfterToken, BeforeToken, AfterMinus, Digits, Ended, BadForm, BadLiteral}
-use Rattle.solver_text.specs.Machine.{refusedAt, answerAt}
+use Rattle.solver_scan.specs.declared.Place.{Place as Spot}
+use Rattle.solver_scan.specs.declared.Place.the-variants.{Start, Comment, AfterS, BeforeWord, Word, AfterWord, AfterToken, BeforeToken, AfterMinus, Digits, Ended, BadForm, BadLiteral}
+use Rattle.solver_scan.specs.Scanning.{refusedAt}
+use Rattle.solver_text.specs.Machine.{answerAt}
 use Rattle.solver_text.proofs.Answer.{enum}
 use Rattle.decode.specs.declared.Answer.{Answer as Decision}
 use Rattle.decode.specs.declared.Answer.the-variants.{Table, None, Unknown, Refused as TurnedDown}

@@ -7,8 +7,8 @@ use native.Mathlib.Omega.{arith}
 use lib.IntN.{ℤ, pos, negsuc}
 use lib.ListN.{length, length-append}
 use Rattle.solver_text.specs.Calls.{joined}
-use Rattle.console.specs.declared.input.Got.{Got}
-use Rattle.console.specs.Got.{told, ReadOnce}
+use Rattle.console_read.specs.declared.Got.{Got}
+use Rattle.console_read.specs.Got.{told, ReadOnce}
 use Rattle.console_answers.specs.FromPieces.{Brings, ends, fails, early, brings}
 
 -- the calls so far, each of which brought a piece

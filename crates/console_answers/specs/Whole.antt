@@ -7,9 +7,10 @@ use Rattle.automaton.specs.declared.Automaton.{Automaton}
 use Rattle.automaton.specs.Value.{Valid}
 use Rattle.automaton.specs.View.{view}
 use Rattle.encoding.specs.Clauses.{Assignment, Satisfies, base-file}
-use Rattle.clause_variables.specs.Sizes.{Dimensioned}
-use Rattle.solver_text.specs.SolverText.{outcome}
-use Rattle.solver_text.specs.Assignment.{States}
+use Rattle.compare.specs.Compared.{prefixRoom, loopRoom}
+use Rattle.clause_sizes.specs.Sizes.{Dimensioned}
+use Rattle.solver_scan.specs.SolverText.{outcome}
+use Rattle.solver_agreement.specs.Assignment.{States}
 use Rattle.solver_text.specs.Calls.{joined, last, kept}
 use Rattle.decode.specs.Answers.{Untouched, found, OfText}
 use Rattle.decode.specs.Table.{decodedValue}
@@ -18,7 +19,7 @@ use Rattle.console_answers.specs.declared.Told.{Told}
 use Rattle.console_answers.specs.FromPieces.{FromPieces}
 
 module _ {p p′ l l′ : List ℕ} {t : Told} {a : Automaton} {n m : ℕ} (f : FromPieces p p′ l l′ t a n m) (v : Valid a) (z : Dimensioned n m)
-    (hp : 256 ≤ length p) (hl : 1280 ≤ length l) where
+    (hp : prefixRoom ≤ length p) (hl : loopRoom ≤ length l) where
   pub text-told : OfText p p′ l l′ (t .decoded) a n m (outcome (last a n m) (kept a n m) (joined (f .pieces)))
   text-told = text-answer v z hp hl (f .reads) (f .decodes)
 

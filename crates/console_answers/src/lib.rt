@@ -1,8 +1,8 @@
 // Solver text as the programs get it, in pieces of 64 KiB, and what the decoder makes of it.
 use automaton::Automaton;
-use console::input;
 use console_places::Place;
 use console_places::part::first;
+use console_read::read_some;
 use decode::Decoded;
 use decode::decode;
 use refusals::Refusal;
@@ -100,7 +100,7 @@ fn hear_some(heard: Heard, fd: i32, name: &[u8], reference: Automaton, n: usize,
     let reader = heard.reader;
     let place = heard.place;
     let mut piece = io::large_buffer();
-    let got = input::read_some(fd, name, &mut piece);
+    let got = read_some(fd, name, &mut piece);
     if got.length == 0 {
         return Heard {
             more: false,

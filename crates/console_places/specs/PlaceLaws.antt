@@ -22,7 +22,7 @@ since k [] = k
 since k (b ∷ s) = since (cond (eqb b 10) 0 (k + 1)) s
 
 abbrev pub place : ℕ → ℕ → ℕ → Place
-place o l c = record { offset = o; line = l; column = c }
+place o l c = record { offset = o; line = l; column = c; byte = 256 }
 
 -- as long as the numbers have 64 bits: so many bytes, so many line feeds, and so many bytes behind the last of them
 after-counts : (o l k : ℕ) (s : List ℕ) → o + length s < 2 ^ 64 → l + length s < 2 ^ 64 → k + 1 + length s < 2 ^ 64

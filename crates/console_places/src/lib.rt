@@ -1,15 +1,19 @@
-// Places in a text: offset, line and column.
+// Places in a text: offset, line and column, and the byte that stands there.
 use crate::part::first;
 ghost use mathlib.Core.Path.{_≡_};
 ghost use Prim.Native.Nat.{_-_, _≤_};
-ghost use Rattle.console_places.specs.Places.{first, next, after, placeOf, more, back, within};
+ghost use Rattle.console_places.specs.Places.{first, next, after, byteAt, seenAt, more, back, within};
 
 pub mod part;
+
+// No byte: the text ends there, or what stands there is not known.
+pub const UNSEEN: usize = 256;
 
 pub struct Place {
     pub offset: usize,
     pub line: usize,
     pub column: usize,
+    pub byte: usize,
 }
 
 impl Place {
@@ -21,6 +25,7 @@ impl Place {
             offset: 0,
             line: 1,
             column: 1,
+            byte: UNSEEN,
         }
     }
 
@@ -55,33 +60,52 @@ impl Place {
             offset,
             line: self.line,
             column: less(self.column, self.offset - offset),
+            byte: UNSEEN,
         }
     }
 
-    fn next(self, byte: u8) -> Place
-        ensures { λ r. ⌜ r ≡ next self byte ⌝ }
+    fn next(self, b: u8) -> Place
+        ensures { λ r. ⌜ r ≡ next self b ⌝ }
     {
         let offset = more(self.offset);
-        if byte == b'\n' {
+        if b == b'\n' {
             return Place {
                 offset,
                 line: more(self.line),
                 column: 1,
+                byte: UNSEEN,
             };
         }
         Place {
             offset,
             line: self.line,
             column: more(self.column),
+            byte: UNSEEN,
         }
     }
 }
 
-// Of an offset in a text, or of its end where it has no such byte.
+// Of an offset in a text, or of its end where it has no such byte; with what stands there.
 pub fn of(text: &[u8], offset: usize) -> Place
-    ensures { λ r. ⌜ r ≡ placeOf (now (text .entry)) offset ⌝ }
+    ensures { λ r. ⌜ r ≡ seenAt (now (text .entry)) offset ⌝ }
 {
-    Place::first().after(first(text, offset))
+    let place = Place::first().after(first(text, offset));
+    Place {
+        offset: place.offset,
+        line: place.line,
+        column: place.column,
+        byte: byte_at(text, offset),
+    }
+}
+
+fn byte_at(text: &[u8], at: usize) -> usize
+    ensures { λ r. ⌜ r ≡ byteAt (now (text .entry)) at ⌝ }
+{
+    if at < text.len() {
+        text[at] as usize
+    } else {
+        UNSEEN
+    }
 }
 
 fn more(x: usize) -> usize

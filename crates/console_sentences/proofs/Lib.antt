@@ -1,1 +1,3 @@
-pub mod Saying
+pub mod Lines
+pub mod Filling
+pub mod Chosen

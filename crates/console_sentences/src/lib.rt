@@ -1,14 +1,17 @@
 // Why something was turned down, in words.
 use console_places::Place;
-use pieces::word;
+use console_places::UNSEEN;
+use pieces::byte;
+use refusals::Code;
 use refusals::Refusal;
-ghost use mathlib.Core.List.{_++_};
-ghost use Prim.Native.Nat.{_+_, _≤_};
-ghost use lib.ListN.{length};
-ghost use Rattle.decimal.specs.Decimal.{decimal};
-ghost use Rattle.decimal.specs.Wrote.{Wrote};
-ghost use Rattle.automaton.specs.Bytes.{bytes};
-ghost use Rattle.console_sentences.specs.Sentences.{sentence, placed};
+ghost use mathlib.Core.Path.{_≡_};
+ghost use mathlib.Core.Bool.{cond};
+ghost use Prim.Native.Nat.{_≤_};
+ghost use lib.Dec.{eqb};
+ghost use lib.ListN.{length, drop};
+ghost use Rattle.decimal.specs.Wrote.{Wrote, WroteIfRoom};
+ghost use Rattle.console_sentences.specs.Sentences.{sentence, shown, filled};
+ghost use Rattle.console_sentences.specs.Patterns.{lineOf, sizeLine, itemLine, startOf, line, lineAt, most};
 
 mod say;
 
@@ -19,53 +22,112 @@ pub const SENTENCE: usize = 256;
 pub fn sentence(x: Refusal, place: Place, out: &mut [u8; SENTENCE]) -> usize
     ensures { λ r. ⌜ Wrote (now (out .entry)) 0 (sentence x place) (now (out .exit)) r ⌝ }
 {
-    match x {
-        Refusal::Form(o) => placed(place, &say::FORM, out),
-        Refusal::Size(o) => placed(place, &say::SIZE, out),
-        Refusal::Item(o) => placed(place, &say::ITEM, out),
-        Refusal::Undeclared(o) => placed(place, &say::UNDECLARED, out),
-        Refusal::Outside => word(&say::OUTSIDE, out, 0),
-        Refusal::Body(o, q) => bodies(place, q, out),
-        Refusal::SecondEdge(q, l) => two(&say::STATE, q, &say::SECOND_EDGE, l, &say::STOP, out),
-        Refusal::NoEdge(q, l) => two(&say::STATE, q, &say::NO_EDGE, l, &say::STOP, out),
-        Refusal::Dimensions(n, m) => two(&say::ASKED, n, &say::STATES, m, &say::SETS, out),
-        Refusal::SolverForm(o) => placed(place, &say::SOLVER_FORM, out),
-        Refusal::Literal(o) => placed(place, &say::LITERAL, out),
-        Refusal::NoStep(q, l) => two(&say::NO_STEP, q, &say::LETTER, l, &say::STOP, out),
-        Refusal::Differ(p, l) => two(&say::PREFIX, p, &say::LOOP, l, &say::LETTERS, out),
-        Refusal::Short(n, g) => two(&say::NEEDED, n, &say::GIVEN, g, &say::STOP, out),
-        Refusal::Propositions(k, j) => two(&say::ONE, k, &say::OTHER, j, &say::STOP, out),
+    let code = x.code();
+    let number = line_of(code, place.byte);
+    write_line(&say::PATTERNS, number, code, place, out)
+}
+
+// Which pattern: that of document 01's number, or of a cause that what stands at the place tells.
+fn line_of(code: Code, stands: usize) -> usize
+    ensures { λ r. ⌜ r ≡ lineOf code stands ⌝ }
+{
+    let number = code.number;
+    let first = code.first;
+    match number {
+        1 => if stands == UNSEEN { say::TOO_SOON } else { 1 },
+        2 => size_line(first, stands),
+        3 => item_line(stands),
+        4 => if first == 0 { say::OUTSIDE } else { 4 },
+        5 => if stands == UNSEEN { say::NO_BODY } else { 5 },
+        _ => number,
     }
 }
 
-fn bodies(place: Place, state: usize, out: &mut [u8; SENTENCE]) -> usize
-    ensures { λ r. ⌜ Wrote (now (out .entry)) 0 (placed place ": state " ++ (decimal state ++ bytes " has two bodies, or none.\n")) (now (out .exit)) r ⌝ }
+// At a digit a count, at a quote (34) a name.
+fn size_line(offset: usize, stands: usize) -> usize
+    ensures { λ r. ⌜ r ≡ sizeLine offset stands ⌝ }
 {
-    let mut at = placed(place, &say::BODY, out);
-    at = decimal::write(state as u64, out, at);
-    word(&say::BODIES, out, at)
+    if offset == 65536 {
+        return say::TOO_LONG;
+    }
+    match stands {
+        48..=57 => say::COUNT,
+        34 => say::NAME,
+        _ => 2,
+    }
 }
 
-// The place, and words about it.
-fn placed(place: Place, words: &[u8], out: &mut [u8]) -> usize
-    requires { ⌜ length (now words) + 60 ≤ length (now out) ⌝ }
-    ensures is { λ r. ⌜ Wrote (now (out .entry)) 0 (bytes "line " ++ (decimal (place .line) ++ (bytes ", column " ++ (decimal (place .column) ++ now (words .entry))))) (now (out .exit)) r ⌝ }
-    ensures most { λ r. ⌜ r ≤ length (now (words .entry)) + 60 ⌝ }
+// At `-` (45) the body, at a quote (34) a name, at `S` (83) or `A` (65) an item that may come once.
+fn item_line(stands: usize) -> usize
+    ensures { λ r. ⌜ r ≡ itemLine stands ⌝ }
 {
-    let line = place.line;
-    let column = place.column;
-    two(&say::LINE, line, &say::COLUMN, column, words, out)
+    match stands {
+        45 => say::MISSING,
+        34 => say::ALIKE,
+        83 => say::TWICE,
+        65 => say::TWICE,
+        _ => 3,
+    }
 }
 
-// Words with two numbers between them.
-fn two(front: &[u8], a: usize, middle: &[u8], b: usize, back: &[u8], out: &mut [u8]) -> usize
-    requires { ⌜ length (now front) + length (now middle) + length (now back) + 40 ≤ length (now out) ⌝ }
-    ensures is { λ r. ⌜ Wrote (now (out .entry)) 0 (now (front .entry) ++ (decimal a ++ (now (middle .entry) ++ (decimal b ++ now (back .entry))))) (now (out .exit)) r ⌝ }
-    ensures most { λ r. ⌜ r ≤ length (now (front .entry)) + length (now (middle .entry)) + length (now (back .entry)) + 40 ⌝ }
+// Writes a line of the patterns, with numbers for its marks.
+fn write_line(text: &[u8], number: usize, code: Code, place: Place, out: &mut [u8]) -> usize
+    requires { ⌜ most (lineAt number (now text)) ≤ length (now out) ⌝ }
+    ensures { λ r. ⌜ Wrote (now (out .entry)) 0 (filled code place (lineAt number (now (text .entry)))) (now (out .exit)) r ⌝ }
 {
-    let mut at = word(front, out, 0);
-    at = decimal::write(a as u64, out, at);
-    at = word(middle, out, at);
-    at = decimal::write(b as u64, out, at);
-    word(back, out, at)
+    let from = start(text, number);
+    fill(text, from, code, place, out)
+}
+
+// Where a line begins.
+fn start(text: &[u8], number: usize) -> usize
+    ensures { λ r. ⌜ r ≡ startOf number (now (text .entry)) 0 ⌝ }
+{
+    let mut left = number;
+    let mut i: usize = 0;
+    while i < text.len() {
+        if left == 0 {
+            return i;
+        }
+        left -= feed(text[i]);
+        i += 1;
+    }
+    i
+}
+
+fn feed(b: u8) -> usize
+    ensures is { λ r. ⌜ r ≡ cond (eqb b 10) 1 0 ⌝ }
+    ensures most { λ r. ⌜ r ≤ 1 ⌝ }
+{
+    if b == b'\n' { 1 } else { 0 }
+}
+
+// Writes the line that begins at `from`.
+fn fill(text: &[u8], from: usize, code: Code, place: Place, out: &mut [u8]) -> usize
+    requires { ⌜ most (line (drop from (now text))) ≤ length (now out) ⌝ }
+    ensures { λ r. ⌜ Wrote (now (out .entry)) 0 (filled code place (line (drop from (now (text .entry))))) (now (out .exit)) r ⌝ }
+{
+    let mut at: usize = 0;
+    let mut i = from;
+    while i < text.len() {
+        let b = text[i];
+        at = show(b, code, place, out, at);
+        if b == b'\n' {
+            return at;
+        }
+        i += 1;
+    }
+    at
+}
+
+fn show(b: u8, code: Code, place: Place, out: &mut [u8], at: usize) -> usize
+    ensures { λ r. ⌜ WroteIfRoom (now (out .entry)) at (shown code place b) (now (out .exit)) r ⌝ }
+{
+    match b {
+        b'@' => decimal::write(place.line as u64, out, at),
+        b'~' => decimal::write(place.column as u64, out, at),
+        b'#' => decimal::write(code.first as u64, out, at),
+        b'$' => decimal::write(code.second as u64, out, at),
+        _ => byte(b, out, at),
+    }
 }

@@ -1,61 +1,45 @@
-// The words of the sentences, byte for byte.
-// Before a place.
-pub const LINE: [u8; 5] = *b"line ";
+// The patterns of the sentences, one to a line. Their marks stand for numbers: `@` for the line of a place and `~` for its column, `#` and `$`
+// for the two values of a refusal. Lines 1 to 14 have document 01's numbers.
+pub const PATTERNS: [u8; 1541] = *b"\
+    the value lies outside the automata that are allowed.\n\
+    line @, column ~: the HOA text cannot go on like this.\n\
+    line @, column ~: the signs ! and ( nest more than 32 deep.\n\
+    line @, column ~: the acceptance is not 0 t, 1 Inf(0), 2 Inf(0)&Inf(1) and so on up to 4.\n\
+    line @, column ~: a state, proposition or mark that was not declared (numbers begin at 0).\n\
+    line @, column ~: state $ has a second body.\n\
+    state # has a second edge for letter $.\n\
+    state # has no edge for letter $.\n\
+    asked for # states and $ sets; allowed are 1 to 8 states and 0 to 4 sets.\n\
+    line @, column ~: the solver's text cannot go on like this.\n\
+    line @, column ~: a literal past the last variable, or a variable given twice.\n\
+    no step is true for state # and letter $.\n\
+    the tables differ on a word with a prefix of # and a loop of $ letters.\n\
+    a buffer needs # places and has $.\n\
+    one automaton has # propositions, the other $.\n\
+    line @, column ~: the HOA text ends too soon.\n\
+    line @, column ~: the HOA text has more than 65,536 bytes.\n\
+    line @, column ~: a count outside its limits (1 to 16 states, at most 4 propositions, at most 4 sets).\n\
+    line @, column ~: a name that does not have 1 to 16 bytes.\n\
+    line @, column ~: States, Start or Acceptance is missing, or the acceptance is not 0 t, 1 Inf(0), 2 Inf(0)&Inf(1) and so on up to 4.\n\
+    line @, column ~: two propositions have one name, or the acceptance is not 0 t, 1 Inf(0), 2 Inf(0)&Inf(1) and so on up to 4.\n\
+    line @, column ~: an item is given twice, or the acceptance is not 0 t, 1 Inf(0), 2 Inf(0)&Inf(1) and so on up to 4.\n\
+    state $ has no body.\n";
 
-pub const COLUMN: [u8; 9] = *b", column ";
+// The other lines: a value that was handed over, and the causes that what stands at a place tells.
+pub const OUTSIDE: usize = 0;
 
-// Of an offset in HOA text.
-pub const FORM: [u8; 39] = *b": the HOA text cannot go on like this.\n";
+pub const TOO_SOON: usize = 15;
 
-pub const SIZE: [u8; 107] =
-    *b": over a limit (65,536 bytes, 16 states, 4 propositions, 4 sets, names of 1 to 16 bytes, 32 nested signs).\n";
+pub const TOO_LONG: usize = 16;
 
-pub const ITEM: [u8; 97] =
-    *b": an item twice or missing, two names alike, or an acceptance other than 0 t or Inf(0)&Inf(1)&..\n";
+pub const COUNT: usize = 17;
 
-pub const UNDECLARED: [u8; 54] = *b": a state, proposition or mark that was not declared.\n";
+pub const NAME: usize = 18;
 
-pub const BODY: [u8; 8] = *b": state ";
+pub const MISSING: usize = 19;
 
-pub const BODIES: [u8; 26] = *b" has two bodies, or none.\n";
+pub const ALIKE: usize = 20;
 
-// Of an offset in solver text.
-pub const SOLVER_FORM: [u8; 44] = *b": the solver's text cannot go on like this.\n";
+pub const TWICE: usize = 21;
 
-pub const LITERAL: [u8; 63] = *b": a literal past the last variable, or a variable given twice.\n";
-
-// Of a state and a letter.
-pub const STATE: [u8; 6] = *b"state ";
-
-pub const SECOND_EDGE: [u8; 30] = *b" has a second edge for letter ";
-
-pub const NO_EDGE: [u8; 24] = *b" has no edge for letter ";
-
-pub const NO_STEP: [u8; 26] = *b"no step is true for state ";
-
-pub const LETTER: [u8; 12] = *b" and letter ";
-
-// Of two numbers.
-pub const ASKED: [u8; 10] = *b"asked for ";
-
-pub const STATES: [u8; 12] = *b" states and ";
-
-pub const SETS: [u8; 50] = *b" sets; allowed are 1 to 8 states and 0 to 4 sets.\n";
-
-pub const PREFIX: [u8; 45] = *b"the tables differ on a word with a prefix of ";
-
-pub const LOOP: [u8; 15] = *b" and a loop of ";
-
-pub const LETTERS: [u8; 10] = *b" letters.\n";
-
-pub const NEEDED: [u8; 15] = *b"a buffer needs ";
-
-pub const GIVEN: [u8; 16] = *b" places and has ";
-
-pub const ONE: [u8; 18] = *b"one automaton has ";
-
-pub const OTHER: [u8; 25] = *b" propositions, the other ";
-
-pub const STOP: [u8; 2] = *b".\n";
-
-pub const OUTSIDE: [u8; 54] = *b"the value lies outside the automata that are allowed.\n";
+pub const NO_BODY: usize = 22;

@@ -10,15 +10,16 @@ use Rattle.refusals.specs.declared.Refusal.{Refusal}
 use Rattle.refusals.specs.declared.Refusal.the-variants.{Outside, Dimensions, SolverForm, Short}
 use Rattle.refusals.specs.Refused.{row}
 use Rattle.automaton.specs.Value.{Valid}
-use Rattle.clause_variables.specs.Sizes.{Dimensioned}
+use Rattle.compare.specs.Compared.{prefixRoom, loopRoom}
+use Rattle.clause_sizes.specs.Sizes.{Dimensioned}
 use Rattle.solver_text.specs.declared.Reader.{Reader}
 use Rattle.solver_text.specs.declared.Reply.{Reply}
 use denote.Enum.Declared.{tagOf, declared}
 use Rattle.solver_text.proofs.Answer.{enum}
 use Rattle.solver_text.specs.declared.Answer.{Answer}
 use Rattle.solver_text.specs.declared.Answer.the-variants.{Accepted, Refused as TurnedDown}
-use Rattle.solver_text.specs.declared.scan.Verdict.{Verdict}
-use Rattle.solver_text.specs.declared.scan.Verdict.the-variants.{Unstated, Satisfiable, Unsatisfiable, Unknown as NotKnown}
+use Rattle.solver_scan.specs.declared.Verdict.{Verdict}
+use Rattle.solver_scan.specs.declared.Verdict.the-variants.{Unstated, Satisfiable, Unsatisfiable, Unknown as NotKnown}
 use Rattle.solver_text.specs.Calls.{Called}
 use Rattle.decode.specs.declared.Answer.the-variants.{None, Unknown, Refused}
 use Rattle.decode.specs.declared.Decoded.{Decoded}
@@ -59,7 +60,7 @@ clash : {P : Type 0} (f : Refusal) → Accepted ≡ TurnedDown f → P
 clash f e = let z : _≡_ {A = ℕ} 0 1 = cc in absurd (omega arith)
 
 module _ (a : Automaton) (n m : ℕ) (r : Reader) (p l : List ℕ) where
-  pub prefix-short : {x : Decoded} → length p < 256 → x ≡ without (Refused (Short 256 (length p))) → Decodes p p l l x a n m r
+  pub prefix-short : {x : Decoded} → length p < prefixRoom → x ≡ without (Refused (Short prefixRoom (length p))) → Decodes p p l l x a n m r
   prefix-short h e = record {
     short-prefix = λ g. untouched e;
     short-loop = λ g. absurd (omega arith);
@@ -70,8 +71,8 @@ module _ (a : Automaton) (n m : ℕ) (r : Reader) (p l : List ℕ) where
     accepted = λ d. absurd (omega (arith, d .prefix-room));
   }
 
-  module _ (hp : 256 ≤ length p) where
-    pub loop-short : {x : Decoded} → length l < 1280 → x ≡ without (Refused (Short 1280 (length l))) → Decodes p p l l x a n m r
+  module _ (hp : prefixRoom ≤ length p) where
+    pub loop-short : {x : Decoded} → length l < loopRoom → x ≡ without (Refused (Short loopRoom (length l))) → Decodes p p l l x a n m r
     loop-short h e = record {
       short-prefix = λ g. absurd (omega arith);
       short-loop = λ _ g. untouched e;
@@ -82,7 +83,7 @@ module _ (a : Automaton) (n m : ℕ) (r : Reader) (p l : List ℕ) where
       accepted = λ d. absurd (omega (arith, d .loop-room));
     }
 
-    module _ (hl : 1280 ≤ length l) {y : Reply} (c : Called a n m r (whole a n m r) y) where
+    module _ (hl : loopRoom ≤ length l) {y : Reply} (c : Called a n m r (whole a n m r) y) where
       -- the reader turns something down
       pub refused-answer : {x : Decoded} (f : Refusal) → y .answer ≡ TurnedDown f → x ≡ without (Refused f) → Decodes p p l l x a n m r
       refused-answer {x} f h e = record {

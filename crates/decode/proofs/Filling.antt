@@ -13,8 +13,8 @@ use Rattle.meaning.specs.Automata.{Aut}
 use Rattle.meaning.specs.CountingLaws.{filled-next}
 use Rattle.encoding.specs.Variables.{mark}
 use Rattle.encoding.specs.Clauses.{marks-of, set-of}
-use Rattle.clause_variables.specs.declared.sizes.Sizes.{Sizes}
-use Rattle.clause_variables.specs.Numbers.{numberOf}
+use Rattle.clause_sizes.specs.declared.Sizes.{Sizes}
+use Rattle.clause_sizes.specs.Numbers.{numberOf}
 use Rattle.decode.specs.declared.cells.Cell.{Cell}
 use Rattle.decode.specs.Entries.{entry-used, entry-unused}
 use Rattle.decode.specs.Cells.{tableBy, InUse, Leads, destinationAt, marksAt, CellOf, Filled, FilledTo}

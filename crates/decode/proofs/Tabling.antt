@@ -17,18 +17,18 @@ use Rattle.automaton.specs.Value.{Valid, letters}
 use Rattle.automaton.specs.Letters.{letters-le}
 use Rattle.automaton.specs.Rows.{rows-same}
 use Rattle.encoding.specs.Clauses.{Assignment, destination, marks-of}
-use Rattle.clause_variables.specs.declared.sizes.Sizes.{Sizes}
-use Rattle.clause_variables.specs.declared.sizes.Sized.{Sized}
-use Rattle.clause_variables.specs.declared.sizes.Sized.the-variants.{Refused as NoFile}
-use Rattle.clause_variables.specs.Sizes.{Dimensioned, Refuses, outside, dimensions, Sizing, Fitting, sizesOf}
-use Rattle.clause_variables.specs.Limits.{sizes-fit}
+use Rattle.clause_sizes.specs.declared.Sizes.{Sizes}
+use Rattle.clause_sizes.specs.declared.Sized.{Sized}
+use Rattle.clause_sizes.specs.declared.Sized.the-variants.{Refused as NoFile}
+use Rattle.clause_sizes.specs.Sizes.{Dimensioned, Refuses, outside, dimensions, Sizing, Fitting, sizesOf}
+use Rattle.clause_sizes.specs.Limits.{sizes-fit}
 use Rattle.decode.specs.declared.Answer.the-variants.{Refused}
 use Rattle.decode.specs.declared.Decoded.{Decoded}
 use Rattle.decode.specs.Table.{entry, decodedTable, decodedValue, Steps, AllStep, LowestWithout}
 use Rattle.decode.specs.Answers.{without, ByComparison, ByAssignment}
 use Rattle.decode.specs.Value.{steps-lead, lead-steps, decoded-valid}
 use Rattle.decode.specs.Cells.{tableBy, Filled, FilledTo}
-use Rattle.clause_variables.specs.Measured.{Measured, sizing-refused}
+use Rattle.clause_sizes.specs.Measured.{Measured, sizing-refused}
 use Rattle.decode.specs.Ready.{Comparable, candidate}
 use Rattle.decode.proofs.Answering.{untouched}
 

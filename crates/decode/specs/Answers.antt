@@ -16,14 +16,14 @@ use Rattle.automaton.specs.Value.{Valid, empty}
 use Rattle.automaton.specs.View.{view}
 use Rattle.encoding.specs.Clauses.{Assignment}
 use Rattle.compare.specs.declared.Comparison.{Comparison}
-use Rattle.compare.specs.Compared.{Shown}
-use Rattle.clause_variables.specs.Sizes.{Dimensioned}
+use Rattle.compare.specs.Compared.{Shown, prefixRoom, loopRoom}
+use Rattle.clause_sizes.specs.Sizes.{Dimensioned}
 use Rattle.solver_text.specs.declared.Reader.{Reader}
 use Rattle.solver_text.specs.declared.Reply.{Reply}
 use Rattle.solver_text.specs.declared.Answer.the-variants.{Accepted, Refused as TurnedDown}
-use Rattle.solver_text.specs.declared.scan.Verdict.the-variants.{Unstated, Satisfiable, Unsatisfiable, Unknown as NotKnown}
-use Rattle.solver_text.specs.SolverText.{Seen, Outcome, gives, refused}
-use Rattle.solver_text.specs.Assignment.{asserted}
+use Rattle.solver_scan.specs.declared.Verdict.the-variants.{Unstated, Satisfiable, Unsatisfiable, Unknown as NotKnown}
+use Rattle.solver_scan.specs.SolverText.{Seen, Outcome, gives, refused}
+use Rattle.solver_agreement.specs.Assignment.{asserted}
 use Rattle.solver_text.specs.Machine.{told, end}
 use Rattle.solver_text.specs.Calls.{InRange, last, kept}
 use Rattle.decode.specs.declared.Answer.{Answer}
@@ -91,21 +91,21 @@ module _ (prefix prefix-after loop loop-after : List ℕ) (x : Decoded) where
   module _ (a : Automaton) (n m : ℕ) (r : Reader) where
     -- nothing speaks against the buffers, the reference, the reader's state, n and m
     pub record Admitted : Type 0 where
-      pub prefix-room : 256 ≤ length prefix
-      pub loop-room : 1280 ≤ length loop
+      pub prefix-room : prefixRoom ≤ length prefix
+      pub loop-room : loopRoom ≤ length loop
       pub valid : Valid a
       pub in-range : InRange r
       pub sizes : Dimensioned n m
 
-    -- "Order: 13 (prefix before loop), 4 for handed values, 8, then reading left to right, then 11, 14, 12." Buffers: "prefix 256 and loop
-    -- 1,280". The text that the reader r has read ends here.
+    -- "Order: 13 (prefix before loop), 4 for handed values, 8, then reading left to right, then 11, 14, 12." The text that the reader r has read
+    -- ends here.
     pub record Decodes : Type 0 where
-      pub short-prefix : length prefix < 256 → Untouched (without (Refused (Short 256 (length prefix)))) (some (row 13 256 (length prefix)))
-      pub short-loop : 256 ≤ length prefix → length loop < 1280
-          → Untouched (without (Refused (Short 1280 (length loop)))) (some (row 13 1280 (length loop)))
-      pub automaton : 256 ≤ length prefix → 1280 ≤ length loop → ¬ Valid a → Untouched (without (Refused Outside)) (some (row 4 0 0))
-      pub state : 256 ≤ length prefix → 1280 ≤ length loop → ¬ InRange r → Untouched (without (Refused Outside)) (some (row 4 0 0))
-      pub dimensions : 256 ≤ length prefix → 1280 ≤ length loop → Valid a → InRange r → ¬ Dimensioned n m
+      pub short-prefix : length prefix < prefixRoom → Untouched (without (Refused (Short prefixRoom (length prefix)))) (some (row 13 prefixRoom (length prefix)))
+      pub short-loop : prefixRoom ≤ length prefix → length loop < loopRoom
+          → Untouched (without (Refused (Short loopRoom (length loop)))) (some (row 13 loopRoom (length loop)))
+      pub automaton : prefixRoom ≤ length prefix → loopRoom ≤ length loop → ¬ Valid a → Untouched (without (Refused Outside)) (some (row 4 0 0))
+      pub state : prefixRoom ≤ length prefix → loopRoom ≤ length loop → ¬ InRange r → Untouched (without (Refused Outside)) (some (row 4 0 0))
+      pub dimensions : prefixRoom ≤ length prefix → loopRoom ≤ length loop → Valid a → InRange r → ¬ Dimensioned n m
           → Untouched (without (Refused (Dimensions n m))) (some (row 8 n m))
       -- 9 and 10
       pub text : Admitted → (f : Refusal) → whole a n m r .answer ≡ TurnedDown f → Untouched (without (Refused f)) (some (codeOf f))

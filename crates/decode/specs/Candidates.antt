@@ -14,7 +14,7 @@ use Rattle.encoding.specs.Clauses.{Assignment, Satisfies, base-file, Equivalent
 use Rattle.encoding.specs.Constraints.{constraints}
 use Rattle.encoding.specs.Base.{base-numbering, base-well-posed, base-encodes}
 use Rattle.encoding.specs.SameTables.{same-agree}
-use Rattle.clause_variables.specs.Sizes.{Dimensioned}
+use Rattle.clause_sizes.specs.Sizes.{Dimensioned}
 use Rattle.decode.specs.Table.{decodedTable, decodedValue, AllStep}
 use Rattle.decode.specs.Found.{Candidate, Found}
 use Rattle.decode.specs.Value.{decoded-valid, decoded-view}

@@ -8,8 +8,8 @@ use lib.ListN.{length, getD}
 use Rattle.meaning.specs.Automata.{Aut}
 use Rattle.encoding.specs.Variables.{base}
 use Rattle.encoding.specs.Clauses.{marks-of, decoded}
-use Rattle.clause_variables.specs.declared.sizes.Sizes.{Sizes}
-use Rattle.clause_variables.specs.Numbers.{counted, numberOf}
+use Rattle.clause_sizes.specs.declared.Sizes.{Sizes}
+use Rattle.clause_sizes.specs.Numbers.{counted, numberOf}
 use Rattle.decode.specs.declared.cells.Cell.{Cell}
 use Rattle.decode.specs.Table.{entry}
 

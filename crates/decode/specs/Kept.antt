@@ -6,10 +6,10 @@ use lib.Arith.{digits-lt}
 use Rattle.meaning.specs.Automata.{Aut}
 use Rattle.encoding.specs.Variables.{step, mark, Present, base, base-number}
 use Rattle.encoding.specs.Blocks.{transition-marks-laws}
-use Rattle.clause_variables.specs.declared.sizes.Sizes.{Sizes}
-use Rattle.clause_variables.specs.Sizes.{Fitting}
-use Rattle.clause_variables.specs.Numbers.{counted, InFile, numberOf}
-use Rattle.clause_variables.specs.Limits.{steps-le, marks-le}
+use Rattle.clause_sizes.specs.declared.Sizes.{Sizes}
+use Rattle.clause_sizes.specs.Sizes.{Fitting}
+use Rattle.clause_sizes.specs.Numbers.{counted, InFile, numberOf}
+use Rattle.clause_sizes.specs.Limits.{steps-le, marks-le}
 
 module _ (R : Aut) (n m : ℕ) where
   pub step-kept : (q l p : ℕ) → Present (base R n m) (step q l p) → base-number R n m (step q l p) ≤ n * n * R .letters

@@ -4,7 +4,7 @@ use mathlib.Core.List.{List}
 use Prim.Native.Nat.{ℕ}
 use Rattle.automaton.specs.declared.Automaton.{Automaton}
 use Rattle.automaton.specs.Value.{Valid}
-use Rattle.clause_variables.specs.declared.sizes.Sizes.{Sizes}
+use Rattle.clause_sizes.specs.declared.Sizes.{Sizes}
 
 -- two automata that can be compared
 pub record Comparable (a b : Automaton) : Type 0 where

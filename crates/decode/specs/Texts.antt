@@ -11,24 +11,25 @@ use Rattle.automaton.specs.declared.Automaton.{Automaton}
 use Rattle.automaton.specs.Value.{Valid}
 use Rattle.automaton.specs.View.{view}
 use Rattle.encoding.specs.Clauses.{Assignment, Satisfies, base-file}
-use Rattle.clause_variables.specs.Sizes.{Dimensioned}
+use Rattle.compare.specs.Compared.{prefixRoom, loopRoom}
+use Rattle.clause_sizes.specs.Sizes.{Dimensioned}
 use Rattle.solver_text.specs.declared.Reader.{Reader}
 use Rattle.solver_text.specs.declared.Reply.{Reply}
-use Rattle.solver_text.specs.SolverText.{Outcome, outcome}
-use Rattle.solver_text.specs.Assignment.{asserted, States}
+use Rattle.solver_scan.specs.SolverText.{Outcome, outcome}
+use Rattle.solver_agreement.specs.Assignment.{asserted, States}
 use Rattle.solver_text.specs.Machine.{fresh, told}
 use Rattle.solver_text.specs.Calls.{InRange, Reads, Ends, joined, last, kept}
 use Rattle.solver_text.specs.Answered.{called-text}
-use Rattle.solver_text.specs.Counts.{kept-le}
-use Rattle.solver_text.specs.Range.{run-kept}
-use Rattle.solver_text.specs.Table.{table-asserted}
-use Rattle.solver_text.specs.Pieces.{pieces, fresh-range, Tells, whole-text}
+use Rattle.solver_agreement.specs.Counts.{kept-le}
+use Rattle.solver_agreement.specs.Range.{run-kept}
+use Rattle.solver_agreement.specs.Table.{table-asserted}
+use Rattle.solver_agreement.specs.Pieces.{pieces, fresh-range, Tells, whole-text}
 use Rattle.decode.specs.declared.Decoded.{Decoded}
 use Rattle.decode.specs.Table.{decodedValue, LowestWithout}
 use Rattle.decode.specs.Answers.{whole, said, found, Untouched, ByComparison, ByAssignment, Admitted, Decodes, OfText}
 use Rattle.decode.specs.Value.{steps-same, all-step-same, decoded-same-value}
 use Rattle.decode.specs.Candidates.{satisfying-steps, satisfying-found}
-use Rattle.solver_text.specs.Ended.{end-kept, end-again}
+use Rattle.solver_agreement.specs.Ended.{end-kept, end-again}
 
 -- ---- the step and mark variables decide the answer
 
@@ -63,7 +64,7 @@ module _ {a : Automaton} {n m : ℕ} (v : Valid a) (z : Dimensioned n m) where
   ends-whole : {q : Reader} → InRange q → Ends a n m q (whole a n m q)
   ends-whole i = called-text v i z refl
 
-  module _ {p p′ l l′ : List ℕ} {x : Decoded} (hp : 256 ≤ length p) (hl : 1280 ≤ length l) where
+  module _ {p p′ l l′ : List ℕ} {x : Decoded} (hp : prefixRoom ≤ length p) (hl : loopRoom ≤ length l) where
     -- what a reader holds
     held-answer : {r : Reader} (o : Outcome) → InRange r → Tells (kept a n m) o (whole a n m r) → Decodes p p′ l l′ x a n m r → OfText p p′ l l′ x a n m o
     held-answer {r} o i t d =
@@ -106,7 +107,7 @@ module _ {p p′ l l′ : List ℕ} {x : Decoded} {a : Automaton} {n m : ℕ} (�
       → Untouched p p′ l l′ x (found (decodedValue a n m ν)) none
   satisfying-answer v z s b = b .table (satisfying-steps v z ν s) .same (satisfying-found v z ν s .agrees)
 
-module _ {a : Automaton} {n m : ℕ} (v : Valid a) (z : Dimensioned n m) {p p′ l l′ : List ℕ} {x : Decoded} (hp : 256 ≤ length p) (hl : 1280 ≤ length l)
+module _ {a : Automaton} {n m : ℕ} (v : Valid a) (z : Dimensioned n m) {p p′ l l′ : List ℕ} {x : Decoded} (hp : prefixRoom ≤ length p) (hl : loopRoom ≤ length l)
     (ν : Assignment) (s : Satisfies ν (base-file (view a) n m)) where
   -- for every list of pieces that make up a text which states an assignment that satisfies the file
   module _ {us : List (List ℕ)} {q : Reader} (k : Reads a n m fresh us q) (t : States (last a n m) (kept a n m) (joined us) ν) where

@@ -16,7 +16,7 @@ use Rattle.encoding.specs.Variables.{step, mark, base-number}
 use Rattle.encoding.specs.Clauses.{Assignment, lowest, destination, marks-of, SameTable}
 use Rattle.encoding.specs.MarkSets.{set-of-lt, has-set-of, set-of-same}
 use Rattle.encoding.specs.Lowest.{lowest-true, lowest-same, lowest-passes}
-use Rattle.clause_variables.specs.Sizes.{Dimensioned}
+use Rattle.clause_sizes.specs.Sizes.{Dimensioned}
 use Rattle.solver_text.specs.Calls.{kept}
 use Rattle.decode.specs.Table.{entry, decodedTable, decodedValue, Steps, AllStep}
 use Rattle.decode.specs.Entries.{entry-used, entry-unused, entries-equal}

@@ -3,8 +3,8 @@ use mathlib.Core.Path.{_≡_, subst}
 use mathlib.Core.Bool.{false}
 use mathlib.Core.List.{List, [], _∷_}
 use Prim.Native.Nat.{ℕ, _+_}
-use Rattle.solver_text.specs.SolverText.{Seen, Outcome, gives, refused, followed, past, split, lf, fenced, unread, unstated, satisfiable, line, judged, lines, outcome}
-use Rattle.solver_text.specs.Cases.{either}
+use Rattle.solver_scan.specs.SolverText.{Seen, Outcome, gives, refused, followed, past, split, lf, fenced, unread, unstated, satisfiable, line, judged, lines, outcome}
+use Rattle.solver_scan.specs.Cases.{either}
 
 -- nothing is said of a text that is turned down
 abbrev Stated : Outcome → Type 0

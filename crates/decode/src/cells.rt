@@ -1,9 +1,9 @@
 // The table that is decoded, entry by entry.
 use automaton::Automaton;
 use automaton::states::CandidateState;
+use clause_sizes::Sizes;
 use clause_variables::numbers::mark_number;
 use clause_variables::numbers::step_number;
-use clause_variables::sizes::Sizes;
 use solver_text::Reader;
 ghost use mathlib.Core.Path.{_≡_};
 ghost use Prim.Native.Nat.{_≤_, _<_};
@@ -12,8 +12,8 @@ ghost use lib.ListN.{length, getD};
 ghost use Rattle.meaning.specs.BitSet.{bit};
 ghost use Rattle.encoding.specs.Variables.{mark};
 ghost use Rattle.encoding.specs.Clauses.{set-of};
-ghost use Rattle.clause_variables.specs.Sizes.{Fitting};
-ghost use Rattle.clause_variables.specs.Numbers.{numberOf};
+ghost use Rattle.clause_sizes.specs.Sizes.{Fitting};
+ghost use Rattle.clause_sizes.specs.Numbers.{numberOf};
 ghost use Rattle.decode.specs.Cells.{tableBy, CellOf, FilledTo};
 
 // The transition of a state and a letter; `found` is false where no step is true.

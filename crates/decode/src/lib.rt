@@ -1,20 +1,20 @@
 // The decoder: from solver text that was read to the table that it describes.
 use automaton::Automaton;
-use clause_variables::sizes::Sized;
-use clause_variables::sizes::Sizes;
-use clause_variables::sizes::measure;
+use clause_sizes::Sized;
+use clause_sizes::Sizes;
+use clause_sizes::measure;
 use compare::Comparison;
 use compare::compare;
 use refusals::Refusal;
+use solver_scan::Verdict;
 use solver_text::Reader;
-use solver_text::scan::Verdict;
 ghost use mathlib.Core.Path.{_≡_};
 ghost use Rattle.automaton.specs.Value.{Valid};
 ghost use Rattle.compare.specs.Compared.{Room};
-ghost use Rattle.clause_variables.specs.Sizes.{Dimensioned};
+ghost use Rattle.clause_sizes.specs.Sizes.{Dimensioned};
 ghost use Rattle.decode.specs.declared.Answer.the-variants.{Refused as RefusedWith};
 ghost use Rattle.decode.specs.Answers.{Decodes, ByVerdict, ByAssignment, ByComparison, said, found, without};
-ghost use Rattle.clause_variables.specs.Measured.{Measured};
+ghost use Rattle.clause_sizes.specs.Measured.{Measured};
 ghost use Rattle.decode.specs.Ready.{Comparable, candidate};
 
 mod cells;

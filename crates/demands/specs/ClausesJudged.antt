@@ -10,17 +10,19 @@ use lib.ListN.{length}
 use Rattle.automaton.specs.declared.Automaton.{Automaton}
 use Rattle.refusals.specs.declared.Code.{Code}
 use Rattle.refusals.specs.declared.Refusal.{Refusal}
-use Rattle.clause_variables.specs.Sizes as sizes
-use Rattle.clause_variables.specs.Sizes.{Refuses}
+use Rattle.clause_sizes.specs.Sizes as sizes
+use Rattle.clause_sizes.specs.Sizes.{Refuses}
+use Rattle.clause_indices.specs.Indices.{clauseRoom}
+use Rattle.clause_header.specs.declared.Totals.{Totals}
+use Rattle.clause_header.specs.declared.Totals.the-variants as header
+use Rattle.clause_header.specs.Header.{Headed, returned as header-said}
 use Rattle.clause_step.specs.declared.Answer.{Answer}
 use Rattle.clause_step.specs.declared.Answer.the-variants.{Written as Wrote, Ended, Refused}
 use Rattle.clause_step.specs.declared.Handed.{Handed}
-use Rattle.clause_step.specs.declared.header.Totals.{Totals}
-use Rattle.clause_step.specs.declared.header.Totals.the-variants as header
 use Rattle.clause_step.specs.Step as calls
-use Rattle.clause_step.specs.Step.{Stepped, StepAnswers, returned as step-said}
-use Rattle.clause_step.specs.Header.{Headed, returned as header-said}
-use Rattle.clause_text.specs.Answers.{LineStepped, LineAnswers, BatchStepped, BatchAnswers}
+use Rattle.clause_step.specs.Step.{lineRoom, Stepped, StepAnswers, returned as step-said}
+use Rattle.clause_line.specs.Line.{LineStepped, LineAnswers}
+use Rattle.clause_text.specs.Answers.{BatchStepped, BatchAnswers}
 use Rattle.demands.specs.Judgement.{Accepted, Judged}
 use Rattle.demands.specs.Conditions.{to-count, to-hand-out}
 use Rattle.demands.specs.Decisions.{judged-refused, judged-accepted}
@@ -57,11 +59,11 @@ module _ (needed given : ℕ) (a : Automaton) (n m x : ℕ) where
   answer-judged P wrote ended refused (Refused f) s = let (t, k) = refused f s in turned t k
 
 module _ (a : Automaton) (n m x : ℕ) where
-  pub step-judged : (d e : List ℤ) (r : Handed) → Stepped a n m x d e r → Judged (to-hand-out 8 (length d) a n m x) (step-said (r .answer)) ((r .position ≡ x) × (e ≡ d))
-  step-judged d e r = answer-judged 8 (length d) a n m x (λ b. StepAnswers a n m x d e b (r .position)) (λ k t. t .0) (λ t. t .0) (λ f (t, p, k). (t, (p, k))) (r .answer)
+  pub step-judged : (d e : List ℤ) (r : Handed) → Stepped a n m x d e r → Judged (to-hand-out clauseRoom (length d) a n m x) (step-said (r .answer)) ((r .position ≡ x) × (e ≡ d))
+  step-judged d e r = answer-judged clauseRoom (length d) a n m x (λ b. StepAnswers a n m x d e b (r .position)) (λ k t. t .0) (λ t. t .0) (λ f (t, p, k). (t, (p, k))) (r .answer)
 
-  pub line-judged : (d e : List ℕ) (r : Handed) → LineStepped a n m x d e r → Judged (to-hand-out 80 (length d) a n m x) (step-said (r .answer)) ((r .position ≡ x) × (e ≡ d))
-  line-judged d e r = answer-judged 80 (length d) a n m x (λ b. LineAnswers a n m x d e b (r .position)) (λ k t. t .0) (λ t. t .0) (λ f (t, p, k). (t, (p, k))) (r .answer)
+  pub line-judged : (d e : List ℕ) (r : Handed) → LineStepped a n m x d e r → Judged (to-hand-out lineRoom (length d) a n m x) (step-said (r .answer)) ((r .position ≡ x) × (e ≡ d))
+  line-judged d e r = answer-judged lineRoom (length d) a n m x (λ b. LineAnswers a n m x d e b (r .position)) (λ k t. t .0) (λ t. t .0) (λ f (t, p, k). (t, (p, k))) (r .answer)
 
-  pub lines-judged : (d e : List ℕ) (r : Handed) → BatchStepped a n m x d e r → Judged (to-hand-out 80 (length d) a n m x) (step-said (r .answer)) ((r .position ≡ x) × (e ≡ d))
-  lines-judged d e r = answer-judged 80 (length d) a n m x (λ b. BatchAnswers a n m x d e b (r .position)) (λ k t. t .0) (λ t. t .0) (λ f (t, p, k). (t, (p, k))) (r .answer)
+  pub lines-judged : (d e : List ℕ) (r : Handed) → BatchStepped a n m x d e r → Judged (to-hand-out lineRoom (length d) a n m x) (step-said (r .answer)) ((r .position ≡ x) × (e ≡ d))
+  lines-judged d e r = answer-judged lineRoom (length d) a n m x (λ b. BatchAnswers a n m x d e b (r .position)) (λ k t. t .0) (λ t. t .0) (λ f (t, p, k). (t, (p, k))) (r .answer)

@@ -12,7 +12,7 @@ use Rattle.refusals.specs.declared.Code.{Code}
 use Rattle.refusals.specs.declared.Refusal.{Refusal}
 use Rattle.compare.specs.declared.Comparison.{Comparison}
 use Rattle.compare.specs.declared.Comparison.the-variants.{Same, Refused}
-use Rattle.compare.specs.Compared.{Compared, Untouched, returned as comparison-said}
+use Rattle.compare.specs.Compared.{Compared, Untouched, returned as comparison-said, prefixRoom, loopRoom}
 use Rattle.demands.specs.Judgement.{TurnedDown, Accepted}
 use Rattle.demands.specs.Conditions.{to-compare, JudgesComparison}
 use Rattle.demands.specs.Decisions.{Decided, decision, some-none, other-number, judged-refused, judged-accepted, valid-decided, agree-decided}
@@ -27,9 +27,9 @@ module _ {a b : Automaton} {prefix prefix-after loop loop-after : List ℕ} {ans
 
   decided : Decided (to-compare a b (length prefix) (length loop) 0 0)
   decided = (
-    decLe 256 (length prefix),
+    decLe prefixRoom (length prefix),
     λ h. (
-      decLe 1280 (length loop),
+      decLe loopRoom (length loop),
       λ g. (
         Dec·and (valid-decided a) (valid-decided b),
         λ v. (ℕ-discrete (a .propositions) (b .propositions), λ e. (agree-decided a b (v .0) (v .1) e, λ s. tt)),

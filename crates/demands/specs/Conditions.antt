@@ -16,22 +16,23 @@ use Rattle.automaton.specs.View.{view}
 use Rattle.encoding.specs.Clauses.{Assignment}
 use Rattle.compare.specs.declared.Comparison.{Comparison}
 use Rattle.compare.specs.declared.Comparison.the-variants as comparison
-use Rattle.compare.specs.Compared.{returned as comparison-said, Witness}
-use Rattle.hoa_text.specs.Reading.{reading}
+use Rattle.compare.specs.Compared.{returned as comparison-said, Witness, prefixRoom, loopRoom}
+use Rattle.hoa_text.specs.Reading.{reading, textLimit}
 use Rattle.hoa_text.specs.Tokens.{tokens}
+use Rattle.hoa_write.specs.Answer.{hoaRoom}
 use Rattle.hoa_read.specs.Told.{fault as hoa-said}
-use Rattle.clause_variables.specs.Sizes.{Dimensioned}
+use Rattle.clause_sizes.specs.Sizes.{Dimensioned}
 use Rattle.clause_step.specs.Step.{last-position}
 use Rattle.solver_text.specs.declared.Reader.{Reader}
 use Rattle.solver_text.specs.declared.Reply.{Reply}
-use Rattle.solver_text.specs.declared.scan.Verdict.{Verdict}
-use Rattle.solver_text.specs.declared.scan.Verdict.the-variants.{Unstated, Satisfiable, Unsatisfiable, Unknown}
+use Rattle.solver_scan.specs.declared.Verdict.{Verdict}
+use Rattle.solver_scan.specs.declared.Verdict.the-variants.{Unstated, Satisfiable, Unsatisfiable, Unknown}
 use Rattle.solver_text.specs.Calls.{InRange, returned as solution-said}
 use Rattle.decode.specs.declared.Answer.the-variants as decoding
 use Rattle.decode.specs.declared.Decoded.{Decoded}
 use Rattle.decode.specs.Answers.{whole, said, found, without, returned as decoder-said}
 use Rattle.decode.specs.Table.{decodedValue, AllStep, LowestWithout}
-use Rattle.search.specs.declared.Search.{Search}
+use Rattle.search_rule.specs.declared.Search.{Search}
 use Rattle.search.specs.declared.Reply as state-reply
 use Rattle.search.specs.Replies as state
 use Rattle.search.specs.Replies.{returned as search-said}
@@ -47,22 +48,22 @@ fault-code (some c) = c
 abbrev pub no-fault : Option Code → Condition
 no-fault fault = record { met = fault ≡ none; otherwise = fault-code fault }
 
--- 2: "text over 65,536 bytes (offset 65,536, before reading)"; then left to right, as `hoa_text` defines it: 1 to 4, 5 for a body twice, 6; and after the
+-- 2 before reading, with the limit as offset; then left to right, as `hoa_text` defines it: 1 to 4, 5 for a body twice, 6; and after the
 -- whole text 5 and 7
 abbrev pub to-read : (text : List ℕ) → List Condition
-to-read text = asks (length text ≤ 65536) 2 65536 0 ∷ no-fault (hoa-said (reading (tokens text))) ∷ []
+to-read text = asks (length text ≤ textLimit) 2 textLimit 0 ∷ no-fault (hoa-said (reading (tokens text))) ∷ []
 
--- ---- the HOA writer: "HOA output 8,192"
+-- ---- the HOA writer
 
 abbrev pub to-write : (a : Automaton) (given : ℕ) → List Condition
-to-write a given = asks (8192 ≤ given) 13 8192 given ∷ asks (Valid a) 4 0 0 ∷ []
+to-write a given = asks (hoaRoom ≤ given) 13 hoaRoom given ∷ asks (Valid a) 4 0 0 ∷ []
 
--- ---- the comparison: "prefix 256 and loop 1,280"; p and l are the lengths of 12's word
+-- ---- the comparison; p and l are the lengths of 12's word
 
 abbrev pub to-compare : (a b : Automaton) (prefix loop p l : ℕ) → List Condition
 to-compare a b prefix loop p l =
-    asks (256 ≤ prefix) 13 256 prefix
-    ∷ asks (1280 ≤ loop) 13 1280 loop
+    asks (prefixRoom ≤ prefix) 13 prefixRoom prefix
+    ∷ asks (loopRoom ≤ loop) 13 loopRoom loop
     ∷ asks (Valid a × Valid b) 4 0 0
     ∷ asks (a .propositions ≡ b .propositions) 14 (a .propositions) (b .propositions)
     ∷ asks (Agree (view a) (view b)) 12 p l
@@ -82,7 +83,7 @@ pub record JudgesComparison (a b : Automaton) (prefix prefix-after loop loop-aft
   pub shown : (c : Code) → comparison-said answer ≡ some c → c .number ≡ 12 → Witness a b x y
   pub same : answer ≡ comparison.Same → (prefix-after ≡ prefix) × (loop-after ≡ loop)
 
--- ---- the header, the clause step ("one clause 8 literals"), the clause line ("one clause line 80 bytes") and the batch of lines
+-- ---- the header, the clause step, the clause line and the batch of lines
 
 abbrev pub to-count : (a : Automaton) (n m : ℕ) → List Condition
 to-count a n m = asks (Valid a) 4 0 0 ∷ asks (Dimensioned n m) 8 n m ∷ []
@@ -116,8 +117,8 @@ module _ (a : Automaton) (n m : ℕ) (r : Reader) where
   -- state and letter are those of 11, p and l the lengths of 12's word. "No `s` line" is 9 also where no text leaves a reader so.
   abbrev pub to-decode : (prefix loop state letter p l : ℕ) → List Condition
   to-decode prefix loop state letter p l =
-      asks (256 ≤ prefix) 13 256 prefix
-      ∷ asks (1280 ≤ loop) 13 1280 loop
+      asks (prefixRoom ≤ prefix) 13 prefixRoom prefix
+      ∷ asks (loopRoom ≤ loop) 13 loopRoom loop
       ∷ to-begin a n m r
       ++ (no-fault (solution-said (whole a n m r .answer))
       ∷ asks (verdict-of ≢ Unstated) 9 (whole a n m r .reader .scan .at) 0
@@ -157,8 +158,8 @@ to-go-on s = asks (state.InRange s) 4 0 0 ∷ []
 
 abbrev pub to-find : (s : Search) (table : Automaton) (prefix loop p l : ℕ) → List Condition
 to-find s table prefix loop p l =
-    asks (256 ≤ prefix) 13 256 prefix
-    ∷ asks (1280 ≤ loop) 13 1280 loop
+    asks (prefixRoom ≤ prefix) 13 prefixRoom prefix
+    ∷ asks (loopRoom ≤ loop) 13 loopRoom loop
     ∷ asks (state.InRange s × Valid table) 4 0 0
     ∷ asks (s .finished ≡ false → state.AskedFor s table) 8 (table .states) (table .sets)
     ∷ asks (s .finished ≡ false → table .propositions ≡ s .reference .propositions) 14 (table .propositions) (s .reference .propositions)

@@ -21,7 +21,7 @@ use Rattle.automaton.specs.Value.{Valid}
 use Rattle.automaton.specs.View.{view}
 use Rattle.automaton.specs.ViewLaws.{view-formed}
 use Rattle.automaton.specs.Meant.{fits-valid, valid-fits}
-use Rattle.clause_variables.specs.Sizes.{Dimensioned}
+use Rattle.clause_sizes.specs.Sizes.{Dimensioned}
 use Rattle.solver_text.specs.declared.Reader.{Reader}
 use Rattle.solver_text.specs.Calls.{InRange}
 use Rattle.demands.specs.Judgement.{Condition, TurnedDown, Accepted, Judged}

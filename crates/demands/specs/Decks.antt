@@ -10,7 +10,7 @@ use Rattle.automaton.specs.Value.{Valid}
 use Rattle.automaton.specs.View.{view}
 use Rattle.encoding.specs.Variables.{base, base-number, base-variables}
 use Rattle.encoding.specs.Clauses.{base-file, Satisfies, destination}
-use Rattle.clause_variables.specs.Sizes.{Dimensioned}
+use Rattle.clause_sizes.specs.Sizes.{Dimensioned}
 use Rattle.decode.specs.Answers.{found}
 use Rattle.automaton.specs.Bytes.{bytes}
 use Rattle.hoa_text.specs.Labels.{deepest}

@@ -21,11 +21,11 @@ use Rattle.automaton.specs.View.{view}
 use Rattle.automaton.specs.ViewLaws.{view-formed}
 use Rattle.encoding.specs.Variables.{base, base-number}
 use Rattle.encoding.specs.Clauses.{each, only, set-of, not-marks, totality, initial, successor, extension, closure, exactly-one, group₁, group₂, group₃, group₄, file, base-file, Assignment, Satisfies, destination}
-use Rattle.clause_variables.specs.Sizes.{Dimensioned}
-use Rattle.solver_text.specs.declared.scan.Verdict.the-variants.{Satisfiable}
-use Rattle.solver_text.specs.SolverText.{Seen, gives, blank, digit, digit19, settled, judged, outcome}
-use Rattle.solver_text.specs.Assignment.{asserted}
-use Rattle.solver_text.specs.Table.{table}
+use Rattle.clause_sizes.specs.Sizes.{Dimensioned}
+use Rattle.solver_scan.specs.declared.Verdict.the-variants.{Satisfiable}
+use Rattle.solver_scan.specs.SolverText.{Seen, gives, blank, digit, digit19, settled, judged, outcome}
+use Rattle.solver_agreement.specs.Assignment.{asserted}
+use Rattle.solver_agreement.specs.Table.{table}
 use Rattle.decode.specs.Table.{decodedValue, AllStep, LowestWithout}
 use Rattle.decode.specs.Answers.{ByComparison, found}
 use Rattle.automaton.specs.Bytes.{bytes}

@@ -13,11 +13,11 @@ use Rattle.encoding.specs.Variables.{base-variables}
 use Rattle.encoding.specs.Clauses.{each, only, set-of, not-marks, totality, initial, successor, extension, closure, exactly-one, group₁, group₂, group₃, group₄, file, base-file}
 use Rattle.encoding.specs.Satisfaction.{no-literal, one-literal, premise}
 use Rattle.decimal.specs.Decimal.{decimal}
-use Rattle.clause_variables.specs.Sizes.{Dimensioned, outside, dimensions}
-use Rattle.clause_step.specs.declared.header.Totals.{Totals}
-use Rattle.clause_step.specs.declared.header.Totals.the-variants.{Of, Refused}
-use Rattle.clause_step.specs.Header.{Headed}
-use Rattle.clause_text.specs.Text.{linesText}
+use Rattle.clause_sizes.specs.Sizes.{Dimensioned, outside, dimensions}
+use Rattle.clause_header.specs.declared.Totals.{Totals}
+use Rattle.clause_header.specs.declared.Totals.the-variants.{Of, Refused}
+use Rattle.clause_header.specs.Header.{Headed}
+use Rattle.clause_words.specs.Text.{linesText}
 use Rattle.clause_text.specs.LinesOut.{lines-out}
 use Rattle.automaton.specs.Bytes.{bytes}
 use Rattle.hoa_text.specs.Grammar.{gives}

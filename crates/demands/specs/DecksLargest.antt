@@ -10,8 +10,8 @@ use Rattle.automaton.specs.View.{view}
 use Rattle.automaton.specs.Letters.{letters-le}
 use Rattle.automaton.specs.Meant.{fits-valid}
 use Rattle.encoding.specs.Variables.{base-variables}
-use Rattle.clause_variables.specs.Sizes.{Dimensioned}
-use Rattle.clause_text.specs.LineLength.{variables-le}
+use Rattle.clause_sizes.specs.Sizes.{Dimensioned}
+use Rattle.clause_line.specs.LineLength.{variables-le}
 
 pub at-most : {a : Automaton} {n m : ℕ} → Valid a → Dimensioned n m → base-variables (view a) n m ≤ 4_199_424
 at-most {a} {n} {m} v d = variables-le (view a) n m (d .n-le) (d .m-le) (v .states-le) (letters-le v) (v .sets-le)

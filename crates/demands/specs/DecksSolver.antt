@@ -8,16 +8,17 @@ use Rattle.automaton.specs.declared.Automaton.{Automaton}
 use Rattle.refusals.specs.declared.Refusal.{Refusal}
 use Rattle.refusals.specs.Refused.{codeOf}
 use Rattle.automaton.specs.Value.{Valid}
-use Rattle.clause_variables.specs.Sizes.{Dimensioned}
+use Rattle.compare.specs.Compared.{prefixRoom, loopRoom}
+use Rattle.clause_sizes.specs.Sizes.{Dimensioned}
 use Rattle.solver_text.specs.declared.Reader.{Reader}
 use Rattle.solver_text.specs.declared.Reply.{Reply}
-use Rattle.solver_text.specs.declared.scan.Verdict.the-variants.{Satisfiable}
-use Rattle.solver_text.specs.SolverText.{Seen, gives, refused, outcome}
-use Rattle.solver_text.specs.Assignment.{asserted, States}
+use Rattle.solver_scan.specs.declared.Verdict.the-variants.{Satisfiable}
+use Rattle.solver_scan.specs.SolverText.{Seen, gives, refused, outcome}
+use Rattle.solver_agreement.specs.Assignment.{asserted, States}
 use Rattle.solver_text.specs.Calls.{InRange, Ends, last, kept}
 use Rattle.solver_text.specs.Answered.{called-text}
-use Rattle.solver_text.specs.Table.{table}
-use Rattle.solver_text.specs.Pieces.{reads-range, Tells, whole-text}
+use Rattle.solver_agreement.specs.Table.{table}
+use Rattle.solver_agreement.specs.Pieces.{reads-range, Tells, whole-text}
 use Rattle.decode.specs.declared.Decoded.{Decoded}
 use Rattle.decode.specs.Answers.{whole, Decodes, Admitted, ByAssignment}
 use Rattle.demands.specs.DecksWords.{HasRead, SolverTextRefused}
@@ -34,7 +35,7 @@ module _ {a : Automaton} {n m : ℕ} (v : Valid a) (z : Dimensioned n m) {text :
   whole-tells : Tells (kept a n m) (outcome (last a n m) (kept a n m) text) (whole a n m q)
   whole-tells = tells (called-text v in-range z refl)
 
-  module _ {prefix prefix-after loop loop-after : List ℕ} (hp : 256 ≤ length prefix) (hl : 1280 ≤ length loop) {x : Decoded}
+  module _ {prefix prefix-after loop loop-after : List ℕ} (hp : prefixRoom ≤ length prefix) (hl : loopRoom ≤ length loop) {x : Decoded}
       (d : Decodes prefix prefix-after loop loop-after x a n m q) where
     admitted : Admitted prefix prefix-after loop loop-after x a n m q
     admitted = record { prefix-room = hp; loop-room = hl; valid = v; in-range = in-range; sizes = z }

@@ -11,20 +11,21 @@ use Rattle.refusals.specs.Refused.{codeOf}
 use Rattle.automaton.specs.View.{view}
 use Rattle.encoding.specs.Variables.{base-variables}
 use Rattle.encoding.specs.Clauses.{base-file, Assignment, Satisfies}
+use Rattle.compare.specs.Compared.{prefixRoom, loopRoom}
 use Rattle.hoa_text.specs.Grammar.{gives, refuses}
 use Rattle.hoa_text.specs.Reading.{read}
+use Rattle.clause_header.specs.declared.Totals.{Totals}
+use Rattle.clause_header.specs.declared.Totals.the-variants.{Of, Refused}
+use Rattle.clause_header.specs.Header.{Headed}
 use Rattle.clause_step.specs.declared.Answer.the-variants.{Ended}
-use Rattle.clause_step.specs.declared.header.Totals.{Totals}
-use Rattle.clause_step.specs.declared.header.Totals.the-variants.{Of, Refused}
 use Rattle.clause_step.specs.Step.{fresh-position}
-use Rattle.clause_step.specs.Header.{Headed}
-use Rattle.clause_text.specs.Text.{linesText}
+use Rattle.clause_words.specs.Text.{linesText}
 use Rattle.clause_text.specs.Batches.{TextCall, TextCalls, all-bytes}
 use Rattle.solver_text.specs.declared.Reader.{Reader}
 use Rattle.solver_text.specs.declared.Reply.{Reply}
 use Rattle.solver_text.specs.declared.Answer.the-variants as reader
-use Rattle.solver_text.specs.SolverText.{refused, outcome}
-use Rattle.solver_text.specs.Assignment.{States}
+use Rattle.solver_scan.specs.SolverText.{refused, outcome}
+use Rattle.solver_agreement.specs.Assignment.{States}
 use Rattle.solver_text.specs.Machine.{fresh}
 use Rattle.solver_text.specs.Calls.{Reads, Ends, joined, last, kept}
 use Rattle.decode.specs.declared.Decoded.{Decoded}
@@ -82,7 +83,7 @@ pub record HasRead (a : Automaton) (n m : ℕ) (text : List ℕ) (q : Reader) : 
 -- what the decoder answers and returns, where no buffer is short; the buffers stay as they were
 abbrev pub DecodedAs : (a : Automaton) (n m : ℕ) → List ℕ → Decoded → Option Code → Type 0
 DecodedAs a n m text y c =
-    (q : Reader) → HasRead a n m text q → (prefix prefix-after loop loop-after : List ℕ) → 256 ≤ length prefix → 1280 ≤ length loop → (x : Decoded)
+    (q : Reader) → HasRead a n m text q → (prefix prefix-after loop loop-after : List ℕ) → prefixRoom ≤ length prefix → loopRoom ≤ length loop → (x : Decoded)
     → Decodes prefix prefix-after loop loop-after x a n m q → Untouched prefix prefix-after loop loop-after x y c
 
 -- it answers with this number and these two values

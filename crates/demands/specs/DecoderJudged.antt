@@ -14,12 +14,13 @@ use Rattle.refusals.specs.declared.Refusal.the-variants.{Outside}
 use Rattle.refusals.specs.Refused.{row, codeOf}
 use Rattle.automaton.specs.Value.{Valid}
 use Rattle.encoding.specs.Clauses.{Assignment}
-use Rattle.clause_variables.specs.Sizes.{Dimensioned}
+use Rattle.compare.specs.Compared.{prefixRoom, loopRoom}
+use Rattle.clause_sizes.specs.Sizes.{Dimensioned}
 use Rattle.solver_text.specs.declared.Reader.{Reader}
 use Rattle.solver_text.specs.declared.Answer as solution
 use Rattle.solver_text.specs.declared.Answer.the-variants as reading
-use Rattle.solver_text.specs.declared.scan.Verdict.{Verdict}
-use Rattle.solver_text.specs.declared.scan.Verdict.the-variants.{Unstated, Satisfiable, Unsatisfiable, Unknown}
+use Rattle.solver_scan.specs.declared.Verdict.{Verdict}
+use Rattle.solver_scan.specs.declared.Verdict.the-variants.{Unstated, Satisfiable, Unsatisfiable, Unknown}
 use Rattle.solver_text.specs.Machine.{end}
 use Rattle.solver_text.specs.Calls.{InRange, last, kept, returned as solution-said}
 use Rattle.decode.specs.declared.Answer.the-variants.{Refused}
@@ -82,14 +83,14 @@ module _ {prefix prefix-after loop loop-after : List ℕ} {answer : Decoded} {a 
   abbrev Kept : Decoded → Option Code → Type 0
   Kept = Untouched prefix prefix-after loop loop-after answer
 
-  outside : 256 ≤ length prefix → 1280 ≤ length loop → ¬ (Valid a × InRange r) → Kept (without (Refused Outside)) (some (row 4 0 0))
+  outside : prefixRoom ≤ length prefix → loopRoom ≤ length loop → ¬ (Valid a × InRange r) → Kept (without (Refused Outside)) (some (row 4 0 0))
   outside h g k = go (valid-decided a)
     where
       go : Dec (Valid a) → Kept (without (Refused Outside)) (some (row 4 0 0))
       go (yes v) = d .state h g (λ i. k (v, i))
       go (no v) = d .automaton h g v
 
-  module _ (h : 256 ≤ length prefix) (g : 1280 ≤ length loop) (v : Valid a × InRange r) (z : Dimensioned n m) where
+  module _ (h : prefixRoom ≤ length prefix) (g : loopRoom ≤ length loop) (v : Valid a × InRange r) (z : Dimensioned n m) where
     admitted : Admitted prefix prefix-after loop loop-after answer a n m r
     admitted = record { prefix-room = h; loop-room = g; valid = v .0; in-range = v .1; sizes = z }
 
@@ -112,9 +113,9 @@ module _ {prefix prefix-after loop loop-after : List ℕ} {answer : Decoded} {a 
 
     decided : Decided (to-decode a n m r (length prefix) (length loop) state letter 0 0)
     decided = (
-      decLe 256 (length prefix),
+      decLe prefixRoom (length prefix),
       λ h. (
-        decLe 1280 (length loop),
+        decLe loopRoom (length loop),
         λ g. (
           Dec·and (valid-decided a) (in-range-decided r),
           λ v. (

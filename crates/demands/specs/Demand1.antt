@@ -14,34 +14,36 @@ use Rattle.automaton.specs.declared.Automaton.{Automaton}
 use Rattle.refusals.specs.declared.Code.{Code}
 use Rattle.automaton.specs.Value.{Valid}
 use Rattle.compare.specs.declared.Comparison.{Comparison}
-use Rattle.compare.specs.Compared.{Compared}
+use Rattle.compare.specs.Compared.{Compared, prefixRoom, loopRoom}
 use Rattle.hoa_text.specs.ReadBack.{read-back}
 use Rattle.hoa_text.specs.Reading.{read}
 use Rattle.hoa_text.specs.Written.{text}
+use Rattle.clause_indices.specs.Indices.{clauseRoom}
 use Rattle.hoa_read.specs.declared.Reading.{Reading}
 use Rattle.hoa_read.specs.declared.Answer.the-variants.{Read}
 use Rattle.hoa_read.specs.Told as hoa
 use Rattle.hoa_write.specs.declared.Written.{Written}
 use Rattle.hoa_write.specs.Answer.{Answered, returned as writer-said}
-use Rattle.clause_variables.specs.Sizes.{Dimensioned}
+use Rattle.clause_sizes.specs.Sizes.{Dimensioned}
+use Rattle.clause_header.specs.declared.Totals.{Totals}
+use Rattle.clause_header.specs.Header.{Headed, returned as header-said}
 use Rattle.clause_step.specs.declared.Handed.{Handed}
-use Rattle.clause_step.specs.declared.header.Totals.{Totals}
-use Rattle.clause_step.specs.Header.{Headed, returned as header-said}
-use Rattle.clause_step.specs.Step.{Stepped, returned as step-said}
-use Rattle.clause_text.specs.Answers.{LineStepped, BatchStepped}
+use Rattle.clause_step.specs.Step.{lineRoom, Stepped, returned as step-said}
+use Rattle.clause_line.specs.Line.{LineStepped}
+use Rattle.clause_text.specs.Answers.{BatchStepped}
 use Rattle.solver_text.specs.declared.Reader.{Reader}
 use Rattle.solver_text.specs.declared.Reply.{Reply}
-use Rattle.solver_text.specs.SolverText.{fault, outcome}
+use Rattle.solver_scan.specs.SolverText.{fault, outcome}
 use Rattle.solver_text.specs.Machine.{told, run, end, fresh}
 use Rattle.solver_text.specs.Calls.{Called, Reads, Ends, InRange, RefusedExactly, joined, last, kept, returned as solution-said}
-use Rattle.solver_text.specs.Staying.{refused-run, refused-end}
-use Rattle.solver_text.specs.MidText.{piece-refused-exactly}
+use Rattle.solver_agreement.specs.Staying.{refused-run, refused-end}
+use Rattle.solver_agreement.specs.MidText.{piece-refused-exactly}
 use Rattle.decode.specs.declared.Decoded.{Decoded}
 use Rattle.decode.specs.Answers.{Decodes, OfText}
 use Rattle.decode.specs.Texts.{text-answer}
-use Rattle.search.specs.declared.Search.{Search}
+use Rattle.search_rule.specs.declared.Search.{Search}
 use Rattle.search.specs.declared.Reply as search
-use Rattle.search.specs.Rule as rule
+use Rattle.search_rule.specs.Rule as rule
 use Rattle.search.specs.Replies.{Started, Told, Found, returned as search-said}
 use Rattle.demands.specs.File.{last-variable, steps-and-marks}
 use Rattle.demands.specs.Judgement.{Judged}
@@ -88,27 +90,27 @@ pub record Demand1 : Type 0 where
   -- compare::compare
   pub compare : (a b : Automaton) (prefix prefix-after loop loop-after : List ℕ) (answer : Comparison) → Compared a b prefix prefix-after loop loop-after answer
       → JudgesComparison a b prefix prefix-after loop loop-after answer
-  -- clause_step::header::header; nothing is lent or carried
+  -- clause_header::header; nothing is lent or carried
   pub header : (a : Automaton) (n m : ℕ) (answer : Totals) → Headed a n m answer → Judged (to-count a n m) (header-said answer) (Unit {0})
   -- clause_step::step
   pub step : (a : Automaton) (n m x : ℕ) (d e : List ℤ) (r : Handed) → Stepped a n m x d e r
       → Judged (to-hand-out 8 (length d) a n m x) (step-said (r .answer)) ((r .position ≡ x) × (e ≡ d))
-  -- clause_text::line
+  -- clause_line::line
   pub line : (a : Automaton) (n m x : ℕ) (d e : List ℕ) (r : Handed) → LineStepped a n m x d e r
-      → Judged (to-hand-out 80 (length d) a n m x) (step-said (r .answer)) ((r .position ≡ x) × (e ≡ d))
+      → Judged (to-hand-out lineRoom (length d) a n m x) (step-said (r .answer)) ((r .position ≡ x) × (e ≡ d))
   -- clause_text::lines
   pub lines : (a : Automaton) (n m x : ℕ) (d e : List ℕ) (r : Handed) → BatchStepped a n m x d e r
-      → Judged (to-hand-out 80 (length d) a n m x) (step-said (r .answer)) ((r .position ≡ x) × (e ≡ d))
-  -- solution: Reader::read and Reader::finish
+      → Judged (to-hand-out lineRoom (length d) a n m x) (step-said (r .answer)) ((r .position ≡ x) × (e ≡ d))
+  -- solver text: Reader::read and Reader::finish
   pub solver-text : ReadsSolverText
   -- decode::decode
   pub decode : (prefix prefix-after loop loop-after : List ℕ) (answer : Decoded) (a : Automaton) (n m : ℕ) (r : Reader)
       → Decodes prefix prefix-after loop loop-after answer a n m r → JudgesDecoding a n m r prefix prefix-after loop loop-after answer
   -- the decoder takes what a fresh reader holds of a text: 9 and 10 where the definition of solver text gives them, and else by what the text says
-  pub decode-text : (prefix prefix-after loop loop-after : List ℕ) (answer : Decoded) (a : Automaton) (n m : ℕ) → 256 ≤ length prefix → 1280 ≤ length loop → Valid a
+  pub decode-text : (prefix prefix-after loop loop-after : List ℕ) (answer : Decoded) (a : Automaton) (n m : ℕ) → prefixRoom ≤ length prefix → loopRoom ≤ length loop → Valid a
       → Dimensioned n m → (us : List (List ℕ)) (r : Reader) → Reads a n m fresh us r → Decodes prefix prefix-after loop loop-after answer a n m r
       → OfText prefix prefix-after loop loop-after answer a n m (outcome (last-variable a n m) (steps-and-marks a n m) (joined us))
-  -- search::start, Search::none and Search::unknown, Search::found
+  -- search::start, search::none and search::unknown, search::found
   pub start : (a : Automaton) (r : search.Reply) → Started a r → Judged (to-start a) (search-said (r .answer)) (Unit {0})
   pub none : (s : Search) (r : search.Reply) → Told s (rule.none s) r → Judged (to-go-on s) (search-said (r .answer)) (r .search ≡ s)
   pub unknown : (s : Search) (r : search.Reply) → Told s (rule.unknown s) r → Judged (to-go-on s) (search-said (r .answer)) (r .search ≡ s)

@@ -14,7 +14,7 @@ use Rattle.automaton.specs.View.{view}
 use Rattle.automaton.specs.ViewLaws.{view-formed}
 use Rattle.compare.specs.declared.Comparison.{Comparison}
 use Rattle.compare.specs.declared.Comparison.the-variants.{Same}
-use Rattle.compare.specs.Compared.{Compared, Shown, returned as comparison-said}
+use Rattle.compare.specs.Compared.{Compared, Shown, returned as comparison-said, prefixRoom, loopRoom}
 use Rattle.hoa_text.specs.Reading.{read}
 use Rattle.hoa_text.specs.ReadBack.{read-back}
 use Rattle.hoa_text.specs.Written.{text}
@@ -23,15 +23,15 @@ use Rattle.hoa_read.specs.declared.Answer.the-variants.{Read}
 use Rattle.hoa_read.specs.Told.{told}
 use Rattle.hoa_write.specs.declared.Written.{Written}
 use Rattle.hoa_write.specs.declared.Written.the-variants.{Text}
-use Rattle.hoa_write.specs.Answer.{Answered}
+use Rattle.hoa_write.specs.Answer.{hoaRoom, Answered}
 use Rattle.demands.specs.ComparisonJudged.{comparison-judged}
 
 -- ---- the statement
 
 -- a comparison that is not turned down by 13, 4 or 14: the buffers have room, the two values are automata, over the same letters
 pub record Admitted (a b : Automaton) (prefix loop : List ℕ) : Type 0 where
-  pub prefix-room : 256 ≤ length prefix
-  pub loop-room : 1280 ≤ length loop
+  pub prefix-room : prefixRoom ≤ length prefix
+  pub loop-room : loopRoom ≤ length loop
   pub first : Valid a
   pub second : Valid b
   pub letters : a .propositions ≡ b .propositions
@@ -49,7 +49,7 @@ pub record Demand2 : Type 0 where
   pub compares : (a b : Automaton) (prefix prefix-after loop loop-after : List ℕ) (answer : Comparison) → Compared a b prefix prefix-after loop loop-after answer
       → Compares a b prefix prefix-after loop loop-after answer
   -- what the writer leaves at the start of the buffer is a text that the reader reads as the same automaton: the same value
-  pub reads-back : (a : Automaton) (out after : List ℕ) (answer : Written) → Answered a out after answer → Valid a → 8192 ≤ length out
+  pub reads-back : (a : Automaton) (out after : List ℕ) (answer : Written) → Answered a out after answer → Valid a → hoaRoom ≤ length out
       → (k : ℕ) × (answer ≡ Text k) × ((r : Reading) → r ≡ told (read (take k after)) → r ≡ record { answer = Read; automaton = a })
 
 -- ---- the proof

@@ -19,19 +19,20 @@ use Rattle.automaton.specs.ViewLaws.{view-formed}
 use Rattle.encoding.specs.Variables.{base, base-number}
 use Rattle.encoding.specs.Clauses.{Assignment, Satisfies, group₄}
 use Rattle.encoding.specs.Base.{base-length, base-encodes}
-use Rattle.clause_variables.specs.Sizes as sizes
-use Rattle.clause_variables.specs.Sizes.{Dimensioned}
-use Rattle.clause_step.specs.declared.header.Totals.{Totals}
-use Rattle.clause_step.specs.declared.header.Totals.the-variants.{Of, Refused as NoTotals}
+use Rattle.compare.specs.Compared.{prefixRoom, loopRoom}
+use Rattle.clause_sizes.specs.Sizes as sizes
+use Rattle.clause_sizes.specs.Sizes.{Dimensioned}
+use Rattle.clause_header.specs.declared.Totals.{Totals}
+use Rattle.clause_header.specs.declared.Totals.the-variants.{Of, Refused as NoTotals}
+use Rattle.clause_header.specs.Header.{Headed}
 use Rattle.clause_step.specs.Step.{fresh-position}
-use Rattle.clause_step.specs.Header.{Headed}
 use Rattle.clause_step.specs.Calls.{Call, Calls, HandsOut}
 use Rattle.clause_step.specs.HandsOut.{hands-out}
 use Rattle.clause_text.specs.Batches.{TextCall, TextCalls, LinesOut}
 use Rattle.clause_text.specs.LinesOut.{lines-out}
 use Rattle.solver_text.specs.declared.Reader.{Reader}
 use Rattle.solver_text.specs.declared.Reply.{Reply}
-use Rattle.solver_text.specs.Assignment.{States}
+use Rattle.solver_agreement.specs.Assignment.{States}
 use Rattle.solver_text.specs.Machine.{fresh}
 use Rattle.solver_text.specs.Calls.{Reads, Ends, joined, last, kept}
 use Rattle.decode.specs.declared.Decoded.{Decoded}
@@ -54,11 +55,11 @@ pub data Held (reference : Automaton) (n m : ℕ) (pieces : List (List ℕ)) : R
 
 -- the decoder answers C, or 13 where a buffer is short, and leaves both buffers as they were
 pub record Delivers (C : Automaton) (prefix prefix-after loop loop-after : List ℕ) (answer : Decoded) : Type 0 where
-  pub table : 256 ≤ length prefix → 1280 ≤ length loop → Untouched prefix prefix-after loop loop-after answer (found C) none
-  pub short-prefix : length prefix < 256
-      → Untouched prefix prefix-after loop loop-after answer (without (Refused (Short 256 (length prefix)))) (some (row 13 256 (length prefix)))
-  pub short-loop : 256 ≤ length prefix → length loop < 1280
-      → Untouched prefix prefix-after loop loop-after answer (without (Refused (Short 1280 (length loop)))) (some (row 13 1280 (length loop)))
+  pub table : prefixRoom ≤ length prefix → loopRoom ≤ length loop → Untouched prefix prefix-after loop loop-after answer (found C) none
+  pub short-prefix : length prefix < prefixRoom
+      → Untouched prefix prefix-after loop loop-after answer (without (Refused (Short prefixRoom (length prefix)))) (some (row 13 prefixRoom (length prefix)))
+  pub short-loop : prefixRoom ≤ length prefix → length loop < loopRoom
+      → Untouched prefix prefix-after loop loop-after answer (without (Refused (Short loopRoom (length loop)))) (some (row 13 loopRoom (length loop)))
 
 pub record Demand3 (reference : Automaton) (n m : ℕ) : Type 0 where
   -- 1. "A fresh clause step stands before clause 1. Each call gets the same reference, n and m, .. a buffer of any length and the state as the call before it,
@@ -107,7 +108,7 @@ module _ {reference : Automaton} {n m : ℕ} (v : Valid reference) (d : Dimensio
     short-loop = c .short-loop;
   }
     where
-      by-held : {r : Reader} → Held reference n m pieces r → Decodes prefix prefix-after loop loop-after answer reference n m r → 256 ≤ length prefix → 1280 ≤ length loop
+      by-held : {r : Reader} → Held reference n m pieces r → Decodes prefix prefix-after loop loop-after answer reference n m r → prefixRoom ≤ length prefix → loopRoom ≤ length loop
           → Untouched prefix prefix-after loop loop-after answer (found (decodedValue reference n m ν)) none
       by-held (read k) c p l = satisfying-text v d p l ν s k t c
       by-held (ended k e) c p l = satisfying-ended v d p l ν s k t e c

@@ -16,14 +16,14 @@ use Rattle.refusals.specs.declared.Refusal.the-variants.{Size}
 use Rattle.automaton.specs.Value.{Valid}
 use Rattle.hoa_text.specs.Accepted.{accepted-valid}
 use Rattle.hoa_text.specs.Grammar.{Result, gives, refuses}
-use Rattle.hoa_text.specs.Reading.{reading, read}
+use Rattle.hoa_text.specs.Reading.{reading, textLimit, read}
 use Rattle.hoa_text.specs.Tokens.{tokens}
 use Rattle.hoa_read.specs.declared.Reading.{Reading}
 use Rattle.hoa_read.specs.declared.Answer.the-variants.{Read}
 use Rattle.hoa_read.specs.Told.{told, fault as hoa-said, returned as reader-said}
 use Rattle.hoa_read.proofs.ReadLaws.{returned-told}
 use Rattle.hoa_write.specs.declared.Written.{Written}
-use Rattle.hoa_write.specs.Answer.{Answered, returned as writer-said}
+use Rattle.hoa_write.specs.Answer.{hoaRoom, Answered, returned as writer-said}
 use Rattle.demands.specs.Judgement.{TurnedDown, Judged}
 use Rattle.demands.specs.Conditions.{to-write, to-read}
 use Rattle.demands.specs.Decisions.{some-none, fault-decided, fault-is, judged, valid-decided}
@@ -31,14 +31,14 @@ use Rattle.demands.specs.Decisions.{some-none, fault-decided, fault-is, 
 text-judged : (s : List ℕ) → Judged (to-read s) (hoa-said (read s)) (Unit {0})
 unfolding read
 text-judged s =
-    judged (decLe (length s) 65536, λ h. (fault-decided (hoa-said (reading (tokens s))), λ e. tt)) refused (λ (h, (e, t)). by-length (le-leb (length s) 65536 h) ∙ e)
+    judged (decLe (length s) textLimit, λ h. (fault-decided (hoa-said (reading (tokens s))), λ e. tt)) refused (λ (h, (e, t)). by-length (le-leb (length s) textLimit h) ∙ e)
   where
-    by-length : {b : Bool} → leb (length s) 65536 ≡ b → hoa-said (read s) ≡ hoa-said (cond b (reading (tokens s)) (refuses (Size 65536)))
-    by-length e = ap (λ b. hoa-said (cond b (reading (tokens s)) (refuses (Size 65536)))) e
+    by-length : {b : Bool} → leb (length s) textLimit ≡ b → hoa-said (read s) ≡ hoa-said (cond b (reading (tokens s)) (refuses (Size textLimit)))
+    by-length e = ap (λ b. hoa-said (cond b (reading (tokens s)) (refuses (Size textLimit)))) e
 
     refused : (c : Code) → TurnedDown (to-read s) c → (hoa-said (read s) ≡ some c) × Unit {0}
-    refused c (inl (h, e)) = (by-length (lt-leb (length s) 65536 (omega arith)) ∙ ap some (sym e), tt)
-    refused c (inr (h, inl (f, e))) = (by-length (le-leb (length s) 65536 h) ∙ fault-is (hoa-said (reading (tokens s))) c f e, tt)
+    refused c (inl (h, e)) = (by-length (lt-leb (length s) textLimit (omega arith)) ∙ ap some (sym e), tt)
+    refused c (inr (h, inl (f, e))) = (by-length (le-leb (length s) textLimit h) ∙ fault-is (hoa-said (reading (tokens s))) c f e, tt)
     refused c (inr (h, inr (f, t))) = absurd t
 
 pub reader-judged : (s : List ℕ) (r : Reading) → r ≡ told (read s) → Judged (to-read s) (reader-said (r .answer)) (Unit {0})
@@ -54,7 +54,7 @@ reader-valid s r e q = go (read s) refl
 pub writer-judged : (a : Automaton) (out after : List ℕ) (answer : Written) → Answered a out after answer
     → Judged (to-write a (length out)) (writer-said answer) (after ≡ out)
 writer-judged a out after answer w =
-    judged (decLe 8192 (length out), λ h. (valid-decided a, λ v. tt)) refused (λ (h, (v, t)). w .written h v .2)
+    judged (decLe hoaRoom (length out), λ h. (valid-decided a, λ v. tt)) refused (λ (h, (v, t)). w .written h v .2)
   where
     refused : (c : Code) → TurnedDown (to-write a (length out)) c → (writer-said answer ≡ some c) × (after ≡ out)
     refused c (inl (h, e)) = let (s, k, n) = w .short (omega arith) in (n ∙ ap some (sym e), k)

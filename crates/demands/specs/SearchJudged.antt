@@ -11,7 +11,7 @@ use Rattle.automaton.specs.declared.Automaton.{Automaton}
 use Rattle.refusals.specs.declared.Code.{Code}
 use Rattle.refusals.specs.declared.Refusal.{Refusal}
 use Rattle.refusals.specs.Refused.{codeOf}
-use Rattle.search.specs.declared.Search.{Search}
+use Rattle.search_rule.specs.declared.Search.{Search}
 use Rattle.search.specs.declared.Reply.{Reply}
 use Rattle.search.specs.Replies.{Started, Told, Found, Untouched, refused, returned as search-said}
 use Rattle.search.specs.Replies as state

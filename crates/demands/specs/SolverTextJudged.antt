@@ -9,16 +9,17 @@ use Rattle.automaton.specs.declared.Automaton.{Automaton}
 use Rattle.refusals.specs.declared.Code.{Code}
 use Rattle.refusals.specs.declared.Refusal.the-variants.{Outside, Dimensions}
 use Rattle.automaton.specs.Value.{Valid}
-use Rattle.clause_variables.specs.Sizes.{Dimensioned}
+use Rattle.clause_sizes.specs.Sizes.{Dimensioned}
 use Rattle.solver_text.specs.declared.Reader.{Reader}
 use Rattle.solver_text.specs.declared.Reply.{Reply}
-use Rattle.solver_text.specs.declared.scan.Place.{Place}
-use Rattle.solver_text.specs.SolverText.{Outcome, gives, refused, fault, outcome}
-use Rattle.solver_text.specs.Machine.{told, answerAt, refusedAt, fresh}
+use Rattle.solver_scan.specs.declared.Place.{Place}
+use Rattle.solver_scan.specs.SolverText.{Outcome, gives, refused, fault, outcome}
+use Rattle.solver_scan.specs.Scanning.{refusedAt}
+use Rattle.solver_text.specs.Machine.{told, answerAt, fresh}
 use Rattle.solver_text.specs.Calls.{Called, Reads, Ends, InRange, joined, last, kept, refusal, returned as solution-said}
-use Rattle.solver_text.specs.Cases.{by}
-use Rattle.solver_text.specs.Staying.{accepted-place, at-both}
-use Rattle.solver_text.specs.Pieces.{whole-text, Tells}
+use Rattle.solver_scan.specs.Cases.{by}
+use Rattle.solver_agreement.specs.Staying.{accepted-place, at-both}
+use Rattle.solver_agreement.specs.Pieces.{whole-text, Tells}
 use Rattle.demands.specs.File.{last-variable, steps-and-marks}
 use Rattle.demands.specs.Judgement.{TurnedDown, Accepted}
 use Rattle.demands.specs.Conditions.{to-begin, no-fault, JudgesReading}

@@ -1,11 +1,15 @@
 // Prints the automaton that the solver's output on standard input describes, compared with the reference.
 use automaton::Automaton;
 use compare::Comparison;
-use console::input;
-use console::input::TEXT;
-use console::output;
+use console_input::TEXT;
+use console_input::from_argument;
+use console_input::number;
+use console_lines::refuse;
 use console_numerals::Number;
 use console_places::Place;
+use console_print::print;
+use console_results::print_automaton;
+use console_results::print_word;
 use decode::Answer;
 use libc::STDIN_FILENO;
 use refusals::Refusal;
@@ -15,18 +19,18 @@ fn main() {
         return usage();
     }
     let mut word = io::buffer();
-    let second = input::number(2, &mut word);
+    let second = number(2, &mut word);
     let states = second.number;
     let Number::Of(n) = states else {
         return usage();
     };
-    let third = input::number(3, &mut word);
+    let third = number(3, &mut word);
     let sets = third.number;
     let Number::Of(m) = sets else {
         return usage();
     };
     let mut text = [0u8; TEXT];
-    let held = input::from_argument(1, &mut text);
+    let held = from_argument(1, &mut text);
     let given = held.given;
     if !given.accepted {
         return;
@@ -36,7 +40,7 @@ fn main() {
 }
 
 fn usage() {
-    output::usage(b"hoa_decode REFERENCE N M < SOLVER-OUTPUT");
+    console_print::usage(b"hoa_decode REFERENCE N M < SOLVER-OUTPUT");
 }
 
 fn print_decoded(reference: Automaton, n: usize, m: usize) {
@@ -59,16 +63,16 @@ fn print_decoded(reference: Automaton, n: usize, m: usize) {
     let answer = decoded.answer;
     match answer {
         Answer::Table => {
-            output::print_automaton(decoded.table);
+            print_automaton(decoded.table);
         }
-        Answer::None => print_word(b"none\n"),
-        Answer::Unknown => print_word(b"unknown\n"),
+        Answer::None => print_answer(b"none\n"),
+        Answer::Unknown => print_answer(b"unknown\n"),
         Answer::Refused(x) => print_refusal(x, place, &prefix, &cycle),
     }
 }
 
-fn print_word(word: &[u8]) {
-    output::print(word, word.len());
+fn print_answer(word: &[u8]) {
+    print(word, word.len());
 }
 
 // After 12 comes the word that shows the difference; 8 speaks of the arguments.
@@ -80,14 +84,17 @@ fn print_refusal(
 ) {
     match x {
         Refusal::Differ(p, l) => {
-            output::refuse(x, b"standard input", place);
-            output::print_word(prefix, p, cycle, l);
+            let refused = refuse(x, b"standard input", place);
+            let line = refused.line;
+            if line.written {
+                print_word(prefix, p, cycle, l);
+            }
         }
         Refusal::Dimensions(_, _) => {
-            output::refuse(x, b"hoa_decode", place);
+            refuse(x, b"hoa_decode", place);
         }
         _ => {
-            output::refuse(x, b"standard input", place);
+            refuse(x, b"standard input", place);
         }
     }
 }

@@ -29,12 +29,11 @@ use Rattle.hoa_names.specs.declared.NamesRead.{NamesRead}
 use Rattle.hoa_names.specs.declared.Step.{Step}
 use Rattle.hoa_names.specs.declared.Step.the-variants.{Next, Refused}
 use Rattle.hoa_names.specs.Answers.{NamesAnswered, ReadsNames}
-use Rattle.hoa_header.specs.declared.acceptance.SetsRead.{SetsRead}
-use Rattle.hoa_header.specs.declared.acceptance.SetsRead.the-variants as Given
+use Rattle.hoa_acceptance.specs.declared.SetsRead.{SetsRead}
+use Rattle.hoa_acceptance.specs.declared.SetsRead.the-variants as Given
+use Rattle.hoa_acceptance.specs.Answers.{SetsFrom, SetsAnswered, ReadsSets, Past}
 use Rattle.hoa_header.specs.declared.items.ItemRead.{ItemRead}
 use Rattle.hoa_header.specs.declared.items.Items as Code
-use Rattle.hoa_header.specs.Expected.{Past}
-use Rattle.hoa_header.specs.Acceptance.{SetsFrom, SetsAnswered, ReadsSets}
 use Rattle.hoa_header.specs.Kept.{kept, Reaches, ReadsOnce, ReadsStates, ReadsStart, ReadsAp, ReadsAcceptance, StatesGiven, Skips}
 
 -- ---- the value with one more item

@@ -1,5 +1,4 @@
 mod Tokens
-mod Condition
 mod Kept
 mod Turns
 mod Opened

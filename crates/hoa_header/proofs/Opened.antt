@@ -31,12 +31,12 @@ use Rattle.hoa_tokens.specs.Answers.{stream, Reads}
 use Rattle.hoa_tokens.proofs.Token.{enum}
 use Rattle.hoa_names.specs.declared.Step.{Step}
 use Rattle.hoa_names.specs.declared.Step.the-variants as Step
+use Rattle.hoa_acceptance.specs.Answers.{Past}
 use Rattle.hoa_header.specs.declared.HeaderRead.{HeaderRead}
 use Rattle.hoa_header.specs.declared.Answer.{Answer}
 use Rattle.hoa_header.specs.declared.Answer.the-variants as Answer
 use Rattle.hoa_header.specs.declared.items.ItemRead.{ItemRead}
 use Rattle.hoa_header.specs.declared.items.Items as Code
-use Rattle.hoa_header.specs.Expected.{Past}
 use Rattle.hoa_header.specs.Kept.{kept, Turned, Turns, ReadsItem}
 use Rattle.hoa_header.specs.Answers.{Answered, Answers}
 use Rattle.hoa_header.specs.Opening.{ReadsItems, Opens, Unfilled}

@@ -1,6 +1,5 @@
 pub mod Answers
 pub mod Fits
 pub mod Expected
-pub mod Acceptance
 pub mod Kept
 pub mod Opening

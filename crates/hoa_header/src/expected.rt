@@ -2,12 +2,11 @@
 use hoa_tokens::Token;
 use hoa_tokens::next_token;
 use hoa_words::names_item;
-use hoa_words::spells;
 ghost use Prim.Native.Nat.{_-_, _<_};
 ghost use lib.ListN.{length, take};
-ghost use Rattle.hoa_text.specs.Grammar.{isNumber};
 ghost use Rattle.hoa_text.specs.Header.{plain};
-ghost use Rattle.hoa_header.specs.Expected.{Past, isItemOf, isWordOf};
+ghost use Rattle.hoa_acceptance.specs.Answers.{Past};
+ghost use Rattle.hoa_header.specs.Expected.{isItemOf};
 
 // An item name, whose own colon stands last.
 pub fn behind_item(text: &[u8], at: usize, item: &[u8]) -> usize
@@ -22,28 +21,6 @@ pub fn behind_item(text: &[u8], at: usize, item: &[u8]) -> usize
                 at
             }
         }
-        _ => at,
-    }
-}
-
-pub fn behind_word(text: &[u8], at: usize, word: &[u8]) -> usize
-    ensures { λ r. ⌜ Past (isWordOf (now (word .entry))) (now (text .entry)) at r ⌝ }
-{
-    match next_token(text, at) {
-        Token::Word(start, end) => if spells(text, start, end, word) {
-            end
-        } else {
-            at
-        },
-        _ => at,
-    }
-}
-
-pub fn behind_number(text: &[u8], at: usize, number: usize) -> usize
-    ensures { λ r. ⌜ Past (isNumber number) (now (text .entry)) at r ⌝ }
-{
-    match next_token(text, at) {
-        Token::Number(_, value, end) => if value == number { end } else { at },
         _ => at,
     }
 }

@@ -1,15 +1,15 @@
 // The items of a header: `States:`, `Start:`, `AP:` and `Acceptance:`, each once, and others that are skipped.
-use crate::acceptance::SetsRead;
-use crate::acceptance::acceptance;
 use crate::expected::behind_plain;
 use automaton::Automaton;
+use hoa_acceptance::SetsRead;
+use hoa_acceptance::acceptance;
 use hoa_names::Names;
 use hoa_names::Step;
 use hoa_names::none;
 use hoa_names::propositions;
+use hoa_offsets::offset;
 use hoa_tokens::Token;
 use hoa_tokens::next_token;
-use hoa_tokens::offset;
 use hoa_words::ACCEPTANCE;
 use hoa_words::AP;
 use hoa_words::START;

@@ -1,15 +1,14 @@
 // The header of a HOA text.
-mod acceptance;
 mod expected;
 mod items;
 
 use automaton::Automaton;
 use expected::behind_item;
-use expected::behind_word;
+use hoa_acceptance::behind_word;
 use hoa_names::Step;
+use hoa_offsets::offset;
 use hoa_tokens::Token;
 use hoa_tokens::next_token;
-use hoa_tokens::offset;
 use hoa_words::BODY;
 use hoa_words::HOA;
 use hoa_words::VERSION;

@@ -22,7 +22,8 @@ use Rattle.hoa_text.specs.Grammar.{numberOf, isWord, next, at, peek, refuses, t
 use Rattle.hoa_text.specs.Labels.{propositionGiven, unary}
 use Rattle.hoa_text.specs.Numbers.{digit-from}
 use Rattle.hoa_text.specs.FirstByte.{excluded}
-use Rattle.hoa_tokens.specs.Answers.{Skipped, Behind}
+use Rattle.hoa_tokens.specs.Answers.{Skipped}
+use Rattle.hoa_offsets.specs.Behind.{Behind}
 use Rattle.hoa_tokens.proofs.Due.{number-due}
 use Rattle.hoa_labels.specs.declared.tokens.LabelToken.{LabelToken}
 use Rattle.hoa_labels.specs.declared.tokens.LabelToken.the-variants.{Not, And, Or, Open, Close, Constant, Number, Other}

@@ -26,9 +26,10 @@ use Rattle.hoa_text.specs.SignOffsets.{left-mark}
 use Rattle.hoa_text.specs.FirstByte.{excluded}
 use Rattle.hoa_tokens.specs.declared.Token.{Token}
 use Rattle.hoa_tokens.specs.declared.Token.the-variants.{Word, Item, Number, Quoted, Sign, Body, End, Abort, Unread, Over, Broken}
-use Rattle.hoa_tokens.specs.Answers.{stream, Reads, Skipped, isSignOf, Behind}
+use Rattle.hoa_tokens.specs.Answers.{stream, Reads, Skipped}
+use Rattle.hoa_offsets.specs.Behind.{isSignOf, Behind}
 use Rattle.hoa_tokens.proofs.Token.{enum}
-use Rattle.hoa_tokens.specs.Behind.{absent, present, behind-it, its-offset}
+use Rattle.hoa_offsets.specs.BehindLaws.{absent, present, behind-it, its-offset}
 use Rattle.hoa_tokens.proofs.Due.{other-than-number, number-missing, number-due}
 use Rattle.hoa_labels.specs.declared.LabelRead.{LabelRead}
 use Rattle.hoa_labels.specs.declared.LabelRead.the-variants.{Letters, Refused}

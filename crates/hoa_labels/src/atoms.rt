@@ -1,9 +1,9 @@
 // What a label is built of: propositions, `t` and `f`.
 use crate::ALL;
 use crate::LabelRead;
+use hoa_offsets::offset;
 use hoa_tokens::Token;
 use hoa_tokens::next_token;
-use hoa_tokens::offset;
 use hoa_words::FALSE;
 use hoa_words::TRUE;
 use hoa_words::spells;

@@ -5,7 +5,7 @@ mod tokens;
 use atoms::constant;
 use atoms::proposition;
 use automaton::Automaton;
-use hoa_tokens::offset;
+use hoa_offsets::offset;
 use refusals::Refusal;
 use tokens::LabelToken;
 use tokens::label_token;

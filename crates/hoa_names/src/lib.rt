@@ -2,9 +2,9 @@
 mod name;
 
 use automaton::Automaton;
+use hoa_offsets::offset;
 use hoa_tokens::Token;
 use hoa_tokens::next_token;
-use hoa_tokens::offset;
 use name::name;
 use refusals::Refusal;
 ghost use mathlib.Core.Path.{_≡_};

@@ -13,6 +13,7 @@ use types.Run.{OneOf, miss}
 use Rattle.meaning.specs.BitSet.{has}
 use Rattle.meaning.specs.BitSetLaws.{has-not}
 use Rattle.automaton.specs.declared.Automaton.{Automaton}
+use Rattle.bits.specs.Sets.{Lowest}
 use Rattle.refusals.specs.declared.Refusal.{Refusal}
 use Rattle.refusals.specs.declared.Refusal.the-variants.{Form, Body, NoEdge}
 use Rattle.hoa_text.specs.Basics.{option, isSome, first}
@@ -27,17 +28,15 @@ use Rattle.hoa_tokens.specs.declared.Token.the-variants.{Word, Item, Number, Qu
 use Rattle.hoa_tokens.specs.declared.Token.the-variants as Token
 use Rattle.hoa_tokens.specs.Answers.{stream, Reads}
 use Rattle.hoa_tokens.proofs.Token.{enum}
+use Rattle.hoa_body.specs.declared.Table as Code
+use Rattle.hoa_body.specs.Answers.{Bounded, Opens, Holds}
+use Rattle.hoa_body.proofs.SetLaws.{first-found, first-lacks}
+use Rattle.hoa_body.proofs.PartLaws.{count-is}
 use Rattle.hoa_read.specs.declared.Reading.{Reading}
 use Rattle.hoa_read.specs.declared.missing.Gap.{Gap}
 use Rattle.hoa_read.specs.declared.missing.Gap.the-variants.{At, Nowhere}
-use Rattle.hoa_read.specs.declared.tables.Table as Code
-use Rattle.bits.specs.Sets.{Lowest}
-use Rattle.hoa_read.specs.Opened.{Bounded, Opens}
-use Rattle.hoa_read.specs.Tables.{Holds}
 use Rattle.hoa_read.specs.Missing.{gapTold, GapAnswer, WholeAnswer, EndedAnswer}
 use Rattle.hoa_read.specs.Told.{told}
-use Rattle.hoa_read.proofs.SetLaws.{first-found, first-lacks}
-use Rattle.hoa_read.proofs.PartLaws.{count-is}
 
 -- ---- what is not in a set
 
@@ -129,6 +128,30 @@ module _ (a : Automaton) (u : Code.Table) (o : ℕ) (bounded : Bounded a) (q : �
     pub whole-made : GapAnswer (u .given) (a .states) L Nowhere → (r : Reading) (b : Automaton) → ((h : Header) (t : Table) → Opens a h → Holds h t u → b ≡ made h t)
         → r ≡ told (gives b) → WholeAnswer a u o r
     whole-made gap r b is e h t opens g = e ∙ ap (λ b. told (gives b)) (is h t opens g) ∙ sym (ap told (judged Nowhere gap h t opens g))
+
+-- ---- the value
+
+pub made-is : (a : Automaton) (u : Code.Table) (h : Header) (t : Table) → Opens a h → Holds h t u
+    → _≡_ {A = Automaton} (record {
+      states = a .states;
+      start = a .start;
+      propositions = a .propositions;
+      sets = a .sets;
+      lengths = a .lengths;
+      names = a .names;
+      destinations = u .destinations;
+      marks = u .marks;
+    }) (made h t)
+made-is a u h t o g = λ i. record {
+  states = (o i) .states;
+  start = (o i) .start;
+  propositions = (o i) .propositions;
+  sets = (o i) .sets;
+  lengths = (o i) .lengths;
+  names = (o i) .names;
+  destinations = (g .destinations) i;
+  marks = (g .marks) i;
+}
 
 -- ---- behind `--END--`
 

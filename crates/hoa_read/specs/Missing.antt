@@ -13,11 +13,10 @@ use Rattle.hoa_text.specs.Header.{Header}
 use Rattle.hoa_text.specs.Body.{Table, letters}
 use Rattle.hoa_text.specs.Reading.{made, noEdge, whole, ended}
 use Rattle.hoa_text.specs.Tokens.{left}
-use Rattle.hoa_read.specs.Opened.{Opens}
-use Rattle.hoa_read.specs.Tables.{Holds}
+use Rattle.hoa_body.specs.declared.Table as Code
+use Rattle.hoa_body.specs.Answers.{Opens, Holds}
 use Rattle.hoa_read.specs.Told.{told}
 use Rattle.hoa_read.specs.declared.Reading.{Reading}
-use Rattle.hoa_read.specs.declared.tables.Table as Code
 use Rattle.hoa_read.specs.declared.missing.Gap.{Gap}
 use Rattle.hoa_read.specs.declared.missing.Gap.the-variants.{At, Nowhere}
 

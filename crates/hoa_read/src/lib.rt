@@ -1,33 +1,26 @@
 // The reader of HOA text: the header, the body, and what is judged after the whole text.
-mod edges;
 mod missing;
-mod parts;
-mod tables;
 
 use automaton::Automaton;
 use bits::powers::power_of_two;
 use bits::sets::lowest;
+use hoa_body::Table;
+use hoa_body::body;
 use hoa_header::header;
 use hoa_labels::ALL;
+use hoa_offsets::offset;
 use hoa_tokens::Token;
 use hoa_tokens::next_token;
-use hoa_tokens::offset;
 use missing::Gap;
 use missing::first_gap;
-use parts::Part;
-use parts::next_part;
 use refusals::Refusal;
-use tables::Table;
-use tables::no_states;
-use tables::with_edge;
-use tables::with_state;
 ghost use mathlib.Core.Path.{_≡_};
 ghost use Rattle.hoa_text.specs.Grammar.{gives, refuses, then};
 ghost use Rattle.hoa_text.specs.Header.{Header};
 ghost use Rattle.hoa_text.specs.Body.{body};
 ghost use Rattle.hoa_text.specs.Reading.{ended, read};
 ghost use Rattle.hoa_text.specs.Tokens.{left};
-ghost use Rattle.hoa_read.specs.Opened.{Bounded, Opens};
+ghost use Rattle.hoa_body.specs.Answers.{Bounded, Opens};
 ghost use Rattle.hoa_read.specs.Missing.{MadeAnswer, WholeAnswer, EndedAnswer};
 ghost use Rattle.hoa_read.specs.Told.{told, Tells};
 
@@ -56,36 +49,22 @@ pub fn read(text: &[u8]) -> Reading
     let opened = start.automaton;
     let answer = start.answer;
     match answer {
-        hoa_header::Answer::Body(at) => body(text, at, opened),
+        hoa_header::Answer::Body(at) => from_body(text, at, opened),
         hoa_header::Answer::Refused(refusal) => refused(refusal),
     }
 }
 
 // The text from behind `--BODY--` on, once the header has given its counts and names.
-fn body(text: &[u8], at: usize, opened: Automaton) -> Reading
+fn from_body(text: &[u8], at: usize, opened: Automaton) -> Reading
     requires { ⌜ Bounded opened ⌝ }
     ensures { λ r. ⌜ ((h : Header) → Opens opened h → r ≡ told (then (body h (left (now (text .entry)) at)) (ended h))) ⌝ }
 {
-    let letters = power_of_two(opened.propositions);
-    let mut table = no_states(opened);
-    let mut i = at;
-    loop {
-        match next_part(text, i, opened, table) {
-            Part::State(state, next) => {
-                table = with_state(table, state);
-                i = next;
-            }
-            Part::Edge(set, destination, marks, next) => {
-                table = with_edge(table, set, letters, destination, marks);
-                i = next;
-            }
-            Part::End(end) => {
-                return ended(text, end, opened, table);
-            }
-            Part::Refused(refusal) => {
-                return refused(refusal);
-            }
-        }
+    let read = body(text, at, opened);
+    let table = read.table;
+    let answer = read.answer;
+    match answer {
+        hoa_body::Answer::End(end) => ended(text, end, opened, table),
+        hoa_body::Answer::Refused(refusal) => refused(refusal),
     }
 }
 

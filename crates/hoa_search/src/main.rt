@@ -1,25 +1,32 @@
 // Replays solver answers to the search for fewer states, and prints the next question, or the best table once it is finished.
 use automaton::Automaton;
 use compare::Comparison;
-use console::input;
-use console::input::TEXT;
-use console::output;
+use console_input::TEXT;
+use console_input::from_argument;
+use console_lines::print_line;
+use console_lines::refuse;
 use console_places::Place;
 use console_places::part::first;
+use console_print::Printed;
+use console_print::print;
+use console_print::usage;
+use console_read::argument;
+use console_read::read_some;
 use console_report::lines::LINE;
 use console_report::lines::ask;
+use console_results::print_automaton;
 use decode::Decoded;
 use refusals::Refusal;
 use search::Reply;
-use search::Search;
+use search_rule::Search;
 
 fn main() {
     if os::arg_count() < 2 {
-        output::usage(b"hoa_search REFERENCE [ANSWER-FILE ..]");
+        usage(b"hoa_search REFERENCE [ANSWER-FILE ..]");
         return;
     }
     let mut text = [0u8; TEXT];
-    let held = input::from_argument(1, &mut text);
+    let held = from_argument(1, &mut text);
     let given = held.given;
     if !given.accepted {
         return;
@@ -55,7 +62,7 @@ fn replay(start: Replayed) -> Replayed {
 
 fn take_argument(search: Search, i: usize) -> Replayed {
     let mut path = io::buffer();
-    let got = input::argument(i, &mut path);
+    let got = argument(i, &mut path);
     if !got.whole {
         return stopped(search);
     }
@@ -100,7 +107,7 @@ fn take_text(search: Search, fd: i32, path: &[u8]) -> Replayed {
 
 fn only_read(search: Search, fd: i32, path: &[u8]) -> Replayed {
     let mut piece = io::buffer();
-    let got = input::read_some(fd, path, &mut piece);
+    let got = read_some(fd, path, &mut piece);
     Replayed {
         whole: got.whole,
         search,
@@ -111,8 +118,8 @@ fn answer(search: Search, decoded: Decoded, path: &[u8], place: Place) -> Replay
     let answer = decoded.answer;
     match answer {
         decode::Answer::Table => found(search, decoded.table, path),
-        decode::Answer::None => taken(search.none(), path, place),
-        decode::Answer::Unknown => taken(search.unknown(), path, place),
+        decode::Answer::None => taken(search::none(search), path, place),
+        decode::Answer::Unknown => taken(search::unknown(search), path, place),
         decode::Answer::Refused(x) => turned_down(search, x, path, place),
     }
 }
@@ -121,7 +128,7 @@ fn found(search: Search, table: Automaton, path: &[u8]) -> Replayed {
     let mut prefix = [0u8; Comparison::PREFIX];
     let mut cycle = [0u8; Comparison::LOOP];
     taken(
-        search.found(table, &mut prefix, &mut cycle),
+        search::found(search, table, &mut prefix, &mut cycle),
         path,
         Place::first(),
     )
@@ -140,7 +147,7 @@ fn taken(reply: Reply, path: &[u8], place: Place) -> Replayed {
 }
 
 fn turned_down(search: Search, x: Refusal, path: &[u8], place: Place) -> Replayed {
-    output::refuse(x, path, place);
+    refuse(x, path, place);
     stopped(search)
 }
 
@@ -155,17 +162,22 @@ fn print_search(search: Search) {
     if !search.finished {
         return print_question(search.n, search.m);
     }
-    if search.open {
-        output::print(b"finished open\n", 14);
-    } else {
-        output::print(b"finished\n", 9);
+    let printed = print_finished(search.open);
+    if printed.written {
+        let best = search.best;
+        print_automaton(best);
     }
-    let best = search.best;
-    output::print_automaton(best);
+}
+
+fn print_finished(open: bool) -> Printed {
+    if open {
+        return print(b"finished open\n", 14);
+    }
+    print(b"finished\n", 9)
 }
 
 fn print_question(n: usize, m: usize) {
     let mut line = [0u8; LINE];
     let length = ask(n, m, &mut line);
-    output::print_line(&line, length);
+    print_line(&line, length);
 }

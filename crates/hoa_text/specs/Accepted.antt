@@ -17,7 +17,7 @@ use Rattle.hoa_text.specs.Tokens.{Stream, stands, over, broken, tokens}
 use Rattle.hoa_text.specs.Grammar.{gives, refuses, then}
 use Rattle.hoa_text.specs.Header.{Header, header}
 use Rattle.hoa_text.specs.Body.{Table, letters, body}
-use Rattle.hoa_text.specs.Reading.{made, noBody, noEdge, whole, ended, reading, read}
+use Rattle.hoa_text.specs.Reading.{made, noBody, noEdge, whole, ended, reading, textLimit, read}
 use Rattle.hoa_text.specs.Repetition.{Every, every-then}
 use Rattle.hoa_text.specs.HeaderFits.{HeaderFits, header-fits}
 use Rattle.hoa_text.specs.TableFits.{TableFits, body-fits}
@@ -47,7 +47,7 @@ ended-valid h t hf tf (broken q o) = tt
 read-valid : (s : List ℕ) → Every Valid (read s)
 unfolding read
 read-valid s =
-    on-cond (Every Valid) (leb (length s) 65536) (reading (tokens s)) (refuses (Size 65536)) (λ e.
+    on-cond (Every Valid) (leb (length s) textLimit) (reading (tokens s)) (refuses (Size textLimit)) (λ e.
     every-then (λ h u. HeaderFits h) Valid (header (tokens s)) (λ h u. then (body h u) (ended h)) (header-fits (tokens s)) (λ h u hf.
     every-then (λ t v. TableFits h t) Valid (body h u) (ended h) (body-fits h u) (λ t v tf. ended-valid h t hf tf v))) (λ e. tt)
 

@@ -13,7 +13,7 @@ use Rattle.hoa_text.specs.Grammar.{gives, refuses}
 use Rattle.hoa_text.specs.Labels.{deepest}
 use Rattle.hoa_text.specs.Header.{itemRead}
 use Rattle.hoa_text.specs.Body.{bodyRead}
-use Rattle.hoa_text.specs.Reading.{reading, read}
+use Rattle.hoa_text.specs.Reading.{reading, textLimit, read}
 use Rattle.hoa_text.specs.Written.{labelOf, marksOf, text}
 
 -- ---- two automata
@@ -72,10 +72,10 @@ label-written = refl
 marks-written : marksOf 3 5 ≡ bytes " {0 2}"
 marks-written = refl
 
--- a text over 65,536 bytes, whatever it holds
-too-long : (s : List ℕ) → 65536 < length s → read s ≡ refuses (Size 65536)
+-- a text over the limit, whatever it holds
+too-long : (s : List ℕ) → textLimit < length s → read s ≡ refuses (Size textLimit)
 unfolding read
-too-long s h = ap (λ b. cond b (reading (tokens s)) (refuses (Size 65536))) (lt-leb (length s) 65536 h)
+too-long s h = ap (λ b. cond b (reading (tokens s)) (refuses (Size textLimit))) (lt-leb (length s) textLimit h)
 
 -- ---- readings
 

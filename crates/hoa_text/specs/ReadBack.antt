@@ -20,7 +20,7 @@ use Rattle.hoa_text.specs.Basics.{option, isSome}
 use Rattle.hoa_text.specs.Tokens.{tokens}
 use Rattle.hoa_text.specs.Grammar.{gives, refuses, then}
 use Rattle.hoa_text.specs.Body.{Table, letters, body}
-use Rattle.hoa_text.specs.Reading.{made, noEdge, whole, ended, reading, read}
+use Rattle.hoa_text.specs.Reading.{made, noEdge, whole, ended, reading, textLimit, read}
 use Rattle.hoa_text.specs.Written.{stateLines, endLine, text}
 use Rattle.hoa_text.specs.Names.{name-length}
 use Rattle.hoa_text.specs.Made.{destination-made, marks-made, name-made}
@@ -53,7 +53,7 @@ module _ (a : Automaton) (v : Valid a) where
       let r = each (a .states) (stateLines a) ++ endLine in
       let k₁ = header-read a v r in
       let k₂ = body-read a v (k₁ .offset) in
-      ap (λ b. cond b (reading (tokens (text a))) (refuses (Size 65536))) (le-leb (length (text a)) 65536 (omega (arith, text-le a v)))
+      ap (λ b. cond b (reading (tokens (text a))) (refuses (Size textLimit))) (le-leb (length (text a)) textLimit (omega (arith, text-le a v)))
       ∙ ap (λ x. then x (λ h u. then (body h u) (ended h))) (k₁ .is)
       ∙ ap (λ x. then x (ended (headerOf a))) (k₂ .is)
       ∙ whole-read (k₂ .offset)

@@ -56,7 +56,10 @@ abbrev pub reading : Stream → Result Automaton
 reading s = then (header s) λ h u. then (body h u) (ended h)
 
 -- 2: "text over 65,536 bytes (offset 65,536, before reading)"
+abbrev pub textLimit : ℕ
+textLimit = 65536
+
 unfoldable pub read : List ℕ → Result Automaton
 read s =
     let r = reading (tokens s) in
-    cond (leb (length s) 65536) r (refuses (Size 65536))
+    cond (leb (length s) textLimit) r (refuses (Size textLimit))

@@ -1,18 +1,16 @@
 -- DEFINITIONS: what an answer of `next_token` says (`Reads`): the tokens that are left in the text, and where the answered one stands and ends. What
--- `first_byte` (`Skipped`) and `behind` (`Behind`) say.
+-- `first_byte` (`Skipped`) says.
 use mathlib.Core.Path.{_≡_}
-use mathlib.Core.Logic.{_≢_, _⊎_}
+use mathlib.Core.Logic.{_⊎_}
 use mathlib.Core.Bool.{Bool, true, false}
 use mathlib.Core.List.{List, [], _∷_}
 use Prim.Native.Char.{code}
-use Prim.Native.Nat.{ℕ, _+_, _-_, _≤_, _<_}
+use Prim.Native.Nat.{ℕ, _+_, _≤_, _<_}
 use lib.ListN.{length, getD, drop}
 use lib.Seq.{slice}
 use Rattle.automaton.specs.Bytes.{bytes}
-use Rattle.hoa_text.specs.Basics.{option, same, begins}
+use Rattle.hoa_text.specs.Basics.{begins}
 use Rattle.hoa_text.specs.Tokens.{blank, digit, inWord, word, item, number, quoted, sign, unread, Stream, stands, over, broken, left}
-use Rattle.hoa_text.specs.Tokens as Hoa
-use Rattle.hoa_text.specs.Grammar.{signOf, next}
 use Rattle.hoa_tokens.specs.declared.Token.{Token}
 use Rattle.hoa_tokens.specs.declared.Token.the-variants.{Word, Item, Number, Quoted, Sign, Body, End, Abort, Unread, Over, Broken}
 
@@ -92,16 +90,3 @@ pub record Skipped (s : List ℕ) (i e : ℕ) : Type 0 where
   pub from : i ≤ e
   pub is : left s i ≡ left s e
   pub ends : blank (getD s e 0) ≡ false
-
--- ---- one sign
-
--- the sign of the byte b
-abbrev pub isSignOf : ℕ → Hoa.Token → Bool
-isSignOf b t = option (signOf t) false (same (b ∷ []))
-
--- r is behind that sign, or it is i, and the sign does not stand first from i on
-pub record Behind (s : List ℕ) (i b r : ℕ) : Type 0 where
-  pub from : i ≤ r
-  pub absent : r ≡ i → next (isSignOf b) (left s i) ≡ false
-  pub present : r ≢ i → left s i ≡ stands (r - 1) (sign (b ∷ [])) (left s r)
-  pub to : r ≢ i → r ≤ length s

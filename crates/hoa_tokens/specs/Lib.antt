@@ -1,4 +1,3 @@
 pub mod Answers
 pub mod Kinds
-pub mod Behind
 pub mod Ends

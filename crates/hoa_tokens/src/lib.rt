@@ -16,9 +16,7 @@ use quoted::quoted;
 use signs::body_word;
 ghost use mathlib.Core.Path.{_≡_};
 ghost use lib.ListN.{getD};
-ghost use Rattle.hoa_text.specs.Tokens.{left};
-ghost use Rattle.hoa_text.specs.Grammar.{at};
-ghost use Rattle.hoa_tokens.specs.Answers.{Reads, Skipped, Behind};
+ghost use Rattle.hoa_tokens.specs.Answers.{Reads, Skipped};
 ghost use Rattle.hoa_tokens.specs.Kinds.{Other};
 
 // What stands first at or after an offset. The first number of each is the token's offset.
@@ -92,33 +90,4 @@ pub fn first_byte(text: &[u8], at: usize) -> Head
     let offset = skip_blanks(text, at);
     let byte = byte_at(text, offset);
     Head { offset, byte }
-}
-
-// The offset behind a sign of one byte; `at` where that sign does not stand first.
-pub fn behind(text: &[u8], at: usize, sign: u8) -> usize
-    ensures { λ r. ⌜ Behind (now (text .entry)) at sign r ⌝ }
-{
-    match next_token(text, at) {
-        Token::Sign(offset, byte) => if byte == sign { offset + 1 } else { at },
-        _ => at,
-    }
-}
-
-// The offset at which the first token, or the lack of one, is refused.
-pub fn offset(text: &[u8], from: usize) -> usize
-    ensures { λ r. ⌜ r ≡ at (left (now (text .entry)) from) ⌝ }
-{
-    match next_token(text, from) {
-        Token::Word(offset, _) => offset,
-        Token::Item(offset, _) => offset,
-        Token::Number(offset, _, _) => offset,
-        Token::Quoted(offset, _) => offset,
-        Token::Sign(offset, _) => offset,
-        Token::Body(offset) => offset,
-        Token::End(offset) => offset,
-        Token::Abort(offset) => offset,
-        Token::Unread(offset, _) => offset,
-        Token::Over(offset) => offset,
-        Token::Broken(_, refused) => refused,
-    }
 }

@@ -14,7 +14,7 @@ use Rattle.automaton.specs.Value.{Valid}
 use Rattle.decimal.specs.Wrote.{Wrote}
 use Rattle.hoa_text.specs.Written.{text, hoaLine, statesLine, startLine, namesPart, acceptanceLine, bodyLine, stateLines, endLine}
 use Rattle.hoa_write.specs.declared.Written.the-variants.{Text, Refused}
-use Rattle.hoa_write.specs.Answer.{Answered}
+use Rattle.hoa_write.specs.Answer.{hoaRoom, Answered}
 
 -- ---- the text
 
@@ -41,10 +41,10 @@ module _ (a : Automaton) where
 -- ---- the answer
 
 module _ (a : Automaton) (out : List ℕ) where
-  pub short-answer : length out < 8192 → Answered a out out (Refused (Short 8192 (length out)))
+  pub short-answer : length out < hoaRoom → Answered a out out (Refused (Short hoaRoom (length out)))
   short-answer h = record { short = λ g. (refl, refl, refl); outside = λ g. absurd (omega arith); written = λ g. absurd (omega arith) }
 
-  module _ (h : 8192 ≤ length out) where
+  module _ (h : hoaRoom ≤ length out) where
     pub outside-answer : {r : Bool} → (r ≡ true) ↔ Valid a → not r ≡ true → Answered a out out (Refused Outside)
     outside-answer {r} e t = record {
       short = λ g. absurd (omega arith);

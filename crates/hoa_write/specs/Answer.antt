@@ -18,10 +18,13 @@ abbrev pub returned : Written → Option Code
 returned (Text n) = none
 returned (Refused f) = some (codeOf f)
 
--- "Order: 13, 4 for handed values." Buffers: "HOA output 8,192". A refusal leaves the buffer as it was; the text stands at its start, and what is past the
--- text is as it was.
+-- "Buffers: .. HOA output 8,192"
+abbrev pub hoaRoom : ℕ
+hoaRoom = 8192
+
+-- "Order: 13, 4 for handed values." A refusal leaves the buffer as it was; the text stands at its start, and what is past the text is as it was.
 pub record Answered (a : Automaton) (out after : List ℕ) (answer : Written) : Type 0 where
-  pub short : length out < 8192 → (answer ≡ Refused (Short 8192 (length out))) × (after ≡ out) × (returned answer ≡ some (row 13 8192 (length out)))
-  pub outside : 8192 ≤ length out → ¬ Valid a → (answer ≡ Refused Outside) × (after ≡ out) × (returned answer ≡ some (row 4 0 0))
-  pub written : 8192 ≤ length out → Valid a
+  pub short : length out < hoaRoom → (answer ≡ Refused (Short hoaRoom (length out))) × (after ≡ out) × (returned answer ≡ some (row 13 hoaRoom (length out)))
+  pub outside : hoaRoom ≤ length out → ¬ Valid a → (answer ≡ Refused Outside) × (after ≡ out) × (returned answer ≡ some (row 4 0 0))
+  pub written : hoaRoom ≤ length out → Valid a
       → (answer ≡ Text (length (text a))) × (after ≡ text a ++ drop (length (text a)) out) × (returned answer ≡ none)

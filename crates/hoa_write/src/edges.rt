@@ -4,13 +4,13 @@ use crate::parts::byte_if;
 use crate::parts::number;
 use automaton::Automaton;
 use bits::powers::power_of_two;
+use bits::sets::has;
 use pieces::byte;
 use pieces::word;
 ghost use mathlib.Core.Path.{_≡_};
 ghost use mathlib.Core.List.{_++_};
 ghost use Prim.Native.Nat.{_+_, _%_, _^_, _≤_, _<_};
 ghost use lib.ListN.{length};
-ghost use Rattle.meaning.specs.BitSet.{has};
 ghost use Rattle.meaning.specs.Counting.{each};
 ghost use Rattle.automaton.specs.Value.{Valid, letters};
 ghost use Rattle.decimal.specs.Wrote.{Wrote};
@@ -48,14 +48,14 @@ fn edge_line(a: Automaton, q: usize, l: usize, out: &mut [u8]) -> usize
     let cell = q * Automaton::LETTERS + l;
     let destinations = a.destinations;
     let marked = a.marks;
-    let mut at = bracketed(a.propositions, l, out);
+    let mut at = bracketed(a.propositions, l as u16, out);
     at = number(destinations[cell] as usize, out, at);
-    at = marks(a.sets, marked[cell] as usize, out, at);
+    at = marks(a.sets, marked[cell] as u16, out, at);
     byte(b'\n', out, at)
 }
 
 // The label in brackets, and a space.
-fn bracketed(k: usize, l: usize, out: &mut [u8]) -> usize
+fn bracketed(k: usize, l: u16, out: &mut [u8]) -> usize
     requires { ⌜ (k ≤ 4) × (length (bytes "[" ++ (labelOf k l ++ bytes "] ")) ≤ length (now out)) ⌝ }
     ensures { λ r. ⌜ Wrote (now (out .entry)) 0 (bytes "[" ++ (labelOf k l ++ bytes "] ")) (now (out .exit)) r ⌝ }
 {
@@ -65,7 +65,7 @@ fn bracketed(k: usize, l: usize, out: &mut [u8]) -> usize
     byte(b' ', out, at)
 }
 
-fn label(k: usize, l: usize, out: &mut [u8], at: usize) -> usize
+fn label(k: usize, l: u16, out: &mut [u8], at: usize) -> usize
     requires { ⌜ (k ≤ 4) × (at + length (labelOf k l) ≤ length (now out)) ⌝ }
     ensures { λ r. ⌜ Wrote (now (out .entry)) at (labelOf k l) (now (out .exit)) r ⌝ }
 {
@@ -75,7 +75,7 @@ fn label(k: usize, l: usize, out: &mut [u8], at: usize) -> usize
     literals(k, l, out, at)
 }
 
-fn literals(k: usize, l: usize, out: &mut [u8], at: usize) -> usize
+fn literals(k: usize, l: u16, out: &mut [u8], at: usize) -> usize
     requires { ⌜ (k ≤ 4) × (at + length (each k (literalPiece l)) ≤ length (now out)) ⌝ }
     ensures { λ r. ⌜ Wrote (now (out .entry)) at (each k (literalPiece l)) (now (out .exit)) r ⌝ }
 {
@@ -88,7 +88,7 @@ fn literals(k: usize, l: usize, out: &mut [u8], at: usize) -> usize
     next
 }
 
-fn literal(l: usize, i: usize, out: &mut [u8], at: usize) -> usize
+fn literal(l: u16, i: usize, out: &mut [u8], at: usize) -> usize
     requires { ⌜ (i < 4) × (at + length (literalPiece l i) ≤ length (now out)) ⌝ }
     ensures { λ r. ⌜ Wrote (now (out .entry)) at (literalPiece l i) (now (out .exit)) r ⌝ }
 {
@@ -99,7 +99,7 @@ fn literal(l: usize, i: usize, out: &mut [u8], at: usize) -> usize
 }
 
 // Nothing where there are no marks.
-fn marks(sets: usize, m: usize, out: &mut [u8], at: usize) -> usize
+fn marks(sets: usize, m: u16, out: &mut [u8], at: usize) -> usize
     requires { ⌜ (sets ≤ 4) × (at + length (marksOf sets m) ≤ length (now out)) ⌝ }
     ensures { λ r. ⌜ Wrote (now (out .entry)) at (marksOf sets m) (now (out .exit)) r ⌝ }
 {
@@ -112,7 +112,7 @@ fn marks(sets: usize, m: usize, out: &mut [u8], at: usize) -> usize
     byte(b'}', out, next)
 }
 
-fn members(sets: usize, m: usize, out: &mut [u8], at: usize) -> usize
+fn members(sets: usize, m: u16, out: &mut [u8], at: usize) -> usize
     requires { ⌜ (sets ≤ 4) × (at + length (each sets (markPiece m)) ≤ length (now out)) ⌝ }
     ensures { λ r. ⌜ Wrote (now (out .entry)) at (each sets (markPiece m)) (now (out .exit)) r ⌝ }
 {
@@ -125,7 +125,7 @@ fn members(sets: usize, m: usize, out: &mut [u8], at: usize) -> usize
     next
 }
 
-fn member(m: usize, i: usize, out: &mut [u8], at: usize) -> usize
+fn member(m: u16, i: usize, out: &mut [u8], at: usize) -> usize
     requires { ⌜ (i < 4) × (at + length (markPiece m i) ≤ length (now out)) ⌝ }
     ensures { λ r. ⌜ Wrote (now (out .entry)) at (markPiece m i) (now (out .exit)) r ⌝ }
 {
@@ -137,18 +137,10 @@ fn member(m: usize, i: usize, out: &mut [u8], at: usize) -> usize
     number(i, out, next)
 }
 
-// Whether i is among the set m.
-fn has(m: usize, i: usize) -> bool
-    requires { ⌜ i < 4 ⌝ }
-    ensures { λ r. ⌜ r ≡ has m i ⌝ }
-{
-    m / power_of_two(i) % 2 == 1
-}
-
 // The members of m below i.
-fn below(m: usize, i: usize) -> usize
+fn below(m: u16, i: usize) -> usize
     requires { ⌜ i < 4 ⌝ }
     ensures { λ r. ⌜ r ≡ m % 2 ^ i ⌝ }
 {
-    m % power_of_two(i)
+    m as usize % power_of_two(i)
 }

@@ -10,7 +10,7 @@ use Rattle.automaton.specs.View.{view}
 use Rattle.automaton.specs.ViewLaws.{view-formed}
 use Rattle.compare.specs.declared.Comparison.{Comparison}
 use Rattle.compare.specs.Compared.{Compared, Room}
-use Rattle.search.specs.declared.Search.{Search}
+use Rattle.search_rule.specs.declared.Search.{Search}
 use Rattle.search.specs.declared.Reply.{Reply}
 use Rattle.search.specs.Replies.{returned, Admitted, AskedFor, Found, letters, differ, taken}
 use Rattle.search.specs.Judged.{judged}

@@ -8,11 +8,11 @@ use Rattle.meaning.specs.Agreement.{Agree}
 use Rattle.automaton.specs.declared.Automaton.{Automaton}
 use Rattle.automaton.specs.Value.{Valid}
 use Rattle.automaton.specs.View.{view}
-use Rattle.search.specs.declared.Search.{Search}
+use Rattle.search_rule.specs.declared.Search.{Search}
 use Rattle.search.specs.declared.Answer.{Answer}
 use Rattle.search.specs.declared.Answer.the-variants.{Taken, Finished, Refused}
 use Rattle.search.specs.declared.Reply.{Reply}
-use Rattle.search.specs.Rule as rule
+use Rattle.search_rule.specs.Rule as rule
 use Rattle.search.specs.Replies.{Found, Told}
 
 -- ---- the calls

@@ -2,10 +2,10 @@
 use Rattle.automaton.specs.declared.Automaton.{Automaton}
 use Rattle.compare.specs.declared.Comparison.{Comparison}
 use Rattle.compare.specs.declared.Comparison.the-variants as comparison
-use Rattle.search.specs.declared.Search.{Search}
+use Rattle.search_rule.specs.declared.Search.{Search}
 use Rattle.search.specs.declared.Answer.the-variants.{Taken}
 use Rattle.search.specs.declared.Reply.{Reply}
-use Rattle.search.specs.Rule.{found}
+use Rattle.search_rule.specs.Rule.{found}
 use Rattle.search.specs.Replies.{replied, refused}
 
 abbrev pub judged : Search → Automaton → Comparison → Reply

@@ -12,8 +12,8 @@ use Rattle.automaton.specs.declared.Automaton.{Automaton}
 use Rattle.automaton.specs.Value.{Valid}
 use Rattle.automaton.specs.View.{view}
 use Rattle.automaton.specs.ViewLaws.{view-formed}
-use Rattle.search.specs.declared.Search.{Search}
-use Rattle.search.specs.Rule.{below, fresh, found, risen, ended, none}
+use Rattle.search_rule.specs.declared.Search.{Search}
+use Rattle.search_rule.specs.Rule.{below, fresh, found, risen, ended, none}
 use Rattle.search.specs.Calls.{Verdict}
 use Rattle.search.specs.Moves.{Fitting, Moves, by-table, by-none, by-unknown}
 

@@ -1,4 +1,3 @@
-pub mod Rule
 pub mod Replies
 pub mod Judged
 pub mod Calls

@@ -10,11 +10,11 @@ use Rattle.automaton.specs.declared.Automaton.{Automaton}
 use Rattle.refusals.specs.declared.Refusal.{Refusal}
 use Rattle.automaton.specs.Value.{Valid}
 use Rattle.automaton.specs.View.{view}
-use Rattle.search.specs.declared.Search.{Search}
+use Rattle.search_rule.specs.declared.Search.{Search}
 use Rattle.search.specs.declared.Answer.{Answer}
 use Rattle.search.specs.declared.Answer.the-variants.{Taken, Finished}
 use Rattle.search.specs.declared.Reply.{Reply}
-use Rattle.search.specs.Rule as rule
+use Rattle.search_rule.specs.Rule as rule
 use Rattle.search.specs.Replies as reply
 use Rattle.search.specs.Replies.{AskedFor, replied, refused}
 use Rattle.search.specs.Calls.{Verdict, table, none, unknown, Meets, one-taken}

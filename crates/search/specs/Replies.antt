@@ -15,12 +15,12 @@ use Rattle.refusals.specs.Refused.{row, codeOf}
 use Rattle.automaton.specs.Value.{Valid, empty}
 use Rattle.automaton.specs.View.{view}
 use Rattle.compare.specs.declared.Comparison.{Comparison}
-use Rattle.compare.specs.Compared.{Shown, Room}
-use Rattle.search.specs.declared.Search.{Search}
+use Rattle.compare.specs.Compared.{Shown, Room, prefixRoom, loopRoom}
+use Rattle.search_rule.specs.declared.Search.{Search}
 use Rattle.search.specs.declared.Answer.{Answer}
 use Rattle.search.specs.declared.Answer.the-variants.{Taken, Finished, Refused}
 use Rattle.search.specs.declared.Reply.{Reply}
-use Rattle.search.specs.Rule.{fresh, found}
+use Rattle.search_rule.specs.Rule.{fresh, found}
 
 -- the ranges of the fields: "a carried state with a field out of its range" gets 4
 pub record InRange (s : Search) : Type 0 where
@@ -98,8 +98,8 @@ module _ (s : Search) (table : Automaton) (prefix prefix-after loop loop-after :
   -- "Order: 13 (prefix before loop), 4 for handed values", then "finished", 8 "with its own two counts", and the comparison again: 14, 12. Each row's
   -- conditions shut out the other rows, so that one reply is due on each input.
   pub data Found : Type 0 where
-    short-prefix : length prefix < 256 → Untouched (refused (Short 256 (length prefix)) s) (some (row 13 256 (length prefix))) → Found
-    short-loop : 256 ≤ length prefix → length loop < 1280 → Untouched (refused (Short 1280 (length loop)) s) (some (row 13 1280 (length loop))) → Found
+    short-prefix : length prefix < prefixRoom → Untouched (refused (Short prefixRoom (length prefix)) s) (some (row 13 prefixRoom (length prefix))) → Found
+    short-loop : prefixRoom ≤ length prefix → length loop < loopRoom → Untouched (refused (Short loopRoom (length loop)) s) (some (row 13 loopRoom (length loop))) → Found
     outside : Room prefix loop → ¬ (InRange s × Valid table) → Untouched (refused Outside s) (some (row 4 0 0)) → Found
     finished : Room prefix loop → InRange s → Valid table → s .finished ≡ true → Untouched (replied Finished s) none → Found
     dimensions : Room prefix loop → Admitted s table → ¬ AskedFor s table

@@ -10,11 +10,11 @@ use borrow.Author.Tests.{ltb-false, eqb-true}
 use lib.Dec.{ltb, eqb}
 use Rattle.automaton.specs.declared.Automaton.{Automaton}
 use Rattle.automaton.specs.Value.{Valid}
-use Rattle.search.specs.declared.Search.{Search}
+use Rattle.search_rule.specs.declared.Search.{Search}
 use Rattle.search.specs.declared.Answer.{Answer}
 use Rattle.search.specs.declared.Answer.the-variants.{Taken}
 use Rattle.search.specs.declared.Reply.{Reply}
-use Rattle.search.specs.Rule.{below, fresh, ended}
+use Rattle.search_rule.specs.Rule.{below, fresh, ended}
 use Rattle.search.specs.Replies as reply
 use Rattle.search.specs.Replies.{Started}
 use Rattle.search.specs.Calls.{Verdict, table, none, unknown, Call, Calls, after, one-taken, taken, one-table, tables, Heard, Reason, smallest, no-table, not-known, Searches}

@@ -3,11 +3,11 @@ use mathlib.Core.Path.{_≡_, sym, subst}
 use Prim.Native.Nat.{ℕ}
 use Rattle.automaton.specs.declared.Automaton.{Automaton}
 use Rattle.refusals.specs.declared.Refusal.{Refusal}
-use Rattle.clause_variables.specs.declared.sizes.Sizes.{Sizes}
-use Rattle.clause_variables.specs.declared.sizes.Sized.{Sized}
-use Rattle.clause_variables.specs.declared.sizes.Sized.the-variants.{Of, Refused}
-use Rattle.clause_variables.specs.Sizes.{Sizing, Fitting, outside, dimensions}
-use Rattle.clause_variables.specs.Limits.{sizes-fit}
+use Rattle.clause_sizes.specs.declared.Sizes.{Sizes}
+use Rattle.clause_sizes.specs.declared.Sized.{Sized}
+use Rattle.clause_sizes.specs.declared.Sized.the-variants.{Of, Refused}
+use Rattle.clause_sizes.specs.Sizes.{Sizing, Fitting, outside, dimensions}
+use Rattle.clause_sizes.specs.Limits.{sizes-fit}
 use Rattle.solver_text.specs.declared.Reader.{Reader}
 use Rattle.solver_text.specs.declared.Reply.{Reply}
 use Rattle.solver_text.specs.Calls.{InRange, Called, refusal}

@@ -1,5 +1,2 @@
 pub mod Laws
-pub mod PlaceTags
-pub mod VerdictTags
-pub mod Signs
 pub mod CallLaws

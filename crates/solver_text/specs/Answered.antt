@@ -4,7 +4,7 @@ use Prim.Native.Nat.{ℕ}
 use Rattle.automaton.specs.declared.Automaton.{Automaton}
 use Rattle.refusals.specs.declared.Refusal.the-variants.{Outside, Dimensions}
 use Rattle.automaton.specs.Value.{Valid}
-use Rattle.clause_variables.specs.Sizes.{Dimensioned}
+use Rattle.clause_sizes.specs.Sizes.{Dimensioned}
 use Rattle.solver_text.specs.declared.Reader.{Reader}
 use Rattle.solver_text.specs.declared.Reply.{Reply}
 use Rattle.solver_text.specs.Calls.{InRange, returned, refusal, Called}

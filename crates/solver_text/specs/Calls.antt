@@ -13,12 +13,12 @@ use Rattle.refusals.specs.Refused.{row, codeOf}
 use Rattle.automaton.specs.Value.{Valid}
 use Rattle.automaton.specs.View.{view}
 use Rattle.encoding.specs.Variables.{base-variables}
-use Rattle.clause_variables.specs.Sizes.{Dimensioned, sizesOf}
+use Rattle.clause_sizes.specs.Sizes.{Dimensioned, sizesOf}
 use Rattle.solver_text.specs.declared.Reader.{Reader}
 use Rattle.solver_text.specs.declared.Reply.{Reply}
 use Rattle.solver_text.specs.declared.Answer.{Answer}
 use Rattle.solver_text.specs.declared.Answer.the-variants.{Accepted, Refused}
-use Rattle.solver_text.specs.SolverText.{AllRefused}
+use Rattle.solver_scan.specs.SolverText.{AllRefused}
 use Rattle.solver_text.specs.Machine.{told, run, end}
 
 -- "after the nnL steps .. after those nnLm marks": the step and mark variables are those up to this number

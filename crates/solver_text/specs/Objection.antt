@@ -7,9 +7,9 @@ use Rattle.refusals.specs.declared.Code.{Code}
 use Rattle.refusals.specs.declared.Refusal.{Refusal}
 use Rattle.refusals.specs.declared.Refusal.the-variants.{Outside}
 use Rattle.automaton.specs.Value.{Valid}
-use Rattle.clause_variables.specs.declared.sizes.Sized.{Sized}
-use Rattle.clause_variables.specs.declared.sizes.Sized.the-variants.{Of, Refused}
-use Rattle.clause_variables.specs.Sizes.{Dimensioned, Refuses, sizesOf}
+use Rattle.clause_sizes.specs.declared.Sized.{Sized}
+use Rattle.clause_sizes.specs.declared.Sized.the-variants.{Of, Refused}
+use Rattle.clause_sizes.specs.Sizes.{Dimensioned, Refuses, sizesOf}
 use Rattle.solver_text.specs.declared.Reader.{Reader}
 use Rattle.solver_text.specs.Calls.{InRange}
 

@@ -3,18 +3,18 @@ use crate::Answer;
 use crate::Reader;
 use crate::Reply;
 use automaton::Automaton;
-use clause_variables::sizes::Sized;
-use clause_variables::sizes::Sizes;
-use clause_variables::sizes::last_variable;
-use clause_variables::sizes::measure;
+use clause_sizes::Sized;
+use clause_sizes::Sizes;
+use clause_sizes::last_variable;
+use clause_sizes::measure;
 use refusals::Refusal;
 ghost use mathlib.Core.Path.{_≡_};
 ghost use mathlib.Core.Logic.{_↔_};
 ghost use mathlib.Core.Bool.{true};
 ghost use Prim.Native.Nat.{ℕ, _≤_, _<_};
 ghost use lib.ListN.{getD};
-ghost use Rattle.clause_variables.specs.Sizes.{Fitting};
-ghost use Rattle.clause_variables.specs.Numbers.{lastVariable};
+ghost use Rattle.clause_sizes.specs.Sizes.{Fitting};
+ghost use Rattle.clause_sizes.specs.Numbers.{lastVariable};
 ghost use Rattle.solver_text.specs.Calls.{InRange, refusal};
 ghost use Rattle.solver_text.specs.Objection.{Judged};
 
@@ -72,7 +72,7 @@ pub struct Variables {
 
 pub fn variables_of(z: Sizes) -> Variables
     requires { ⌜ Fitting z ⌝ }
-    ensures { λ r. ⌜ (r .last ≡ lastVariable z) × (r .kept ≡ z .marks) × (r .kept ≤ 5120) ⌝ }
+    ensures { λ r. ⌜ (r .last ≡ lastVariable z) × (r .kept ≡ z .marks) ⌝ }
 {
     Variables {
         last: last_variable(z) as u32,

@@ -1,22 +1,17 @@
 // The reader of solver text: a state that goes from piece to piece, by value.
 use automaton::Automaton;
 use call::Variables;
-use clause_variables::sizes::Sized;
+use clause_sizes::Sized;
 use refusals::Refusal;
-use scan::Place;
-use scan::Scan;
+use solver_scan::Place;
+use solver_scan::Scan;
+use solver_scan::Verdict;
 ghost use mathlib.Core.Path.{_≡_};
-ghost use Prim.Native.Nat.{_≤_};
-ghost use Rattle.solver_text.specs.Calls.{Called, InRange, last, kept};
+ghost use Rattle.solver_text.specs.Calls.{Called, last, kept};
 ghost use Rattle.solver_text.specs.Machine.{fresh, run, end, told, at-rest, answerAt};
 
-mod bytes;
 mod call;
-mod end;
-mod literal;
-mod moves;
-pub mod scan;
-mod verdict;
+mod reading;
 
 // What was read so far. `named` has an entry for each step and mark variable, by its number: 0 while it is not named, 1 for
 // true, 2 for false; there is no variable 0.
@@ -36,20 +31,24 @@ pub struct Reply {
 }
 
 impl Reader {
-    pub const VARIABLES: usize = Automaton::CANDIDATE_STATES
-        * Automaton::CANDIDATE_STATES
-        * Automaton::LETTERS
-        * (Automaton::SETS + 1);
-
-    pub const SLOTS: usize = Reader::VARIABLES + 1;
+    pub const SLOTS: usize = solver_literals::SLOTS;
 
     // Nothing is read.
     pub fn fresh() -> Reader
         ensures { λ r. ⌜ r ≡ fresh ⌝ }
     {
-        let scan = moves::unread();
         Reader {
-            scan,
+            scan: Scan {
+                place: Place::Start,
+                at: 0,
+                verdict: Verdict::Unstated,
+                letters: 0,
+                listed: false,
+                closed: false,
+                from: 0,
+                minus: false,
+                value: 0,
+            },
             named: [0u8; Reader::SLOTS],
         }
     }
@@ -76,22 +75,20 @@ impl Reader {
 }
 
 fn read_piece(reader: Reader, piece: &[u8], file: Variables) -> Reply
-    requires { ⌜ InRange reader × (file .kept ≤ 5120) ⌝ }
     ensures { λ e. ⌜ e ≡ told (run (file .last) (file .kept) reader (now (piece .entry))) ⌝ }
 {
     let before = reader.scan;
     let mut named = reader.named;
-    let after = bytes::feed(before, piece, &mut named, file.last, file.kept);
+    let after = reading::feed(before, piece, &mut named, file.last, file.kept);
     replied(after, named)
 }
 
 fn end_text(reader: Reader, file: Variables) -> Reply
-    requires { ⌜ InRange reader × (file .kept ≤ 5120) ⌝ }
     ensures { λ e. ⌜ e ≡ told (end (file .last) (file .kept) reader) ⌝ }
 {
     let before = reader.scan;
     let mut named = reader.named;
-    let after = end::end(before, &mut named, file.last, file.kept);
+    let after = reading::end(before, &mut named, file.last, file.kept);
     replied(after, named)
 }
 

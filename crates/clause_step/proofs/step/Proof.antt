@@ -1,7 +1,7 @@
 -- `step` meets its contract: refusals in document 01's order, then what is found.
 use mathlib.Core.Path.{refl, subst}
 use Rattle.clause_step.specs.Step.{short, outside, StepFound}
-use Rattle.clause_variables.specs.Measured.{sizing-of, sizing-refused, measured-of}
+use Rattle.clause_sizes.specs.Measured.{sizing-of, sizing-refused, measured-of}
 use Rattle.clause_step.specs.Shared.{refused-sizes}
 use Rattle.clause_step.proofs.Laws.{stepped}
 use borrow.Author.Needs.{needs}

@@ -1,7 +1,7 @@
 -- `lines` meets its contract: refusals in document 01's order, then what is found.
 use mathlib.Core.Path.{refl, subst}
 use Rattle.clause_step.specs.Step.{short, outside}
-use Rattle.clause_variables.specs.Measured.{sizing-of, sizing-refused, measured-of}
+use Rattle.clause_sizes.specs.Measured.{sizing-of, sizing-refused, measured-of}
 use Rattle.clause_step.specs.Shared.{refused-sizes}
 use Rattle.clause_text.specs.Answers.{BatchFound}
 use Rattle.clause_text.proofs.Answering.{batch-accepted}

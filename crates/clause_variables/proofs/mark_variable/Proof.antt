@@ -1,6 +1,6 @@
 -- `mark_variable` meets its contract.
 use borrow.Author.Tests.{not-true, not-false}
-use Rattle.clause_variables.proofs.Laws.{false-not}
+use Rattle.clause_sizes.specs.Conjunctions.{false-not}
 use Rattle.clause_variables.proofs.Tested.{no-variable, a-variable, mark-test}
 use borrow.Author.Needs.{needs}
 use Rattle.clause_variables.proofs.mark_variable.Statement.{statement}

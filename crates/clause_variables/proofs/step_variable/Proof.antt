@@ -1,6 +1,6 @@
 -- `step_variable` meets its contract.
 use borrow.Author.Tests.{not-true, not-false}
-use Rattle.clause_variables.proofs.Laws.{false-not}
+use Rattle.clause_sizes.specs.Conjunctions.{false-not}
 use Rattle.clause_variables.proofs.Tested.{no-variable, a-variable, step-test}
 use borrow.Author.Needs.{needs}
 use Rattle.clause_variables.proofs.step_variable.Statement.{statement}

@@ -1,7 +1,7 @@
 -- `hear_some` meets its contract: a piece that was read is not empty.
 use mathlib.Core.Path.{refl}
 use native.Mathlib.Omega.{arith}
-use Rattle.console.specs.Reading.{once-le}
+use Rattle.console_read.specs.Reading.{once-le}
 use Rattle.console_answers.specs.Bringing.{last-call}
 use Rattle.console_answers.specs.SoFar.{ends, goes}
 use Rattle.console_answers.proofs.Places.{piece-some}

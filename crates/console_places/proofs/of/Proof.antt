@@ -1,6 +1,4 @@
 -- `of` meets its contract.
-use mathlib.Core.Path.{ap₂, _∙_}
-use Rattle.console_places.specs.Places.{after}
 use borrow.Author.Needs.{needs}
 use Rattle.console_places.proofs.of.Statement.{statement}
 use Rattle.console_places.proofs.of.Tie as tie
@@ -14,8 +12,11 @@ first-requires-2 c κs = search needs
 after-requires : tie.Need-after-requires
 after-requires c κs = search needs
 
+byte-at-requires : tie.Need-byte-at-requires
+byte-at-requires c κs = search needs
+
 returns : tie.Need-returns
-returns c = c .after .ensures ∙ ap₂ after (c .before .before .first .ensures) (c .before .first2 .ensures)
+returns c = rw (c .byte-at .ensures, c .before .after .ensures, c .before .before .before .first .ensures, c .before .before .first2 .ensures)
 
 pub of-spec : {M : Type 1} → statement M
-of-spec = tie.close (tie.spec first-requires first-requires-2 after-requires returns)
+of-spec = tie.close (tie.spec first-requires first-requires-2 after-requires byte-at-requires returns)

@@ -1,5 +1,5 @@
 -- `by_assignment` meets its contract.
-use Rattle.clause_variables.specs.Measured.{sizing-of, measured-of}
+use Rattle.clause_sizes.specs.Measured.{sizing-of, measured-of}
 use Rattle.decode.proofs.Tabling.{sizing-not, assigned-answer}
 use Rattle.decode.specs.Answers.{said}
 use borrow.Author.Needs.{needs}

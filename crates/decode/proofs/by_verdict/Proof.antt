@@ -1,7 +1,7 @@
 -- `by_verdict` meets its contract.
 use Rattle.decode.proofs.Answering.{untouched, answered}
-use Rattle.solver_text.proofs.VerdictTags.{tagged}
-use Rattle.solver_text.specs.declared.scan.Verdict.the-variants.{Unstated, Satisfiable, Unsatisfiable, Unknown}
+use Rattle.solver_scan.proofs.VerdictTags.{tagged}
+use Rattle.solver_scan.specs.declared.Verdict.the-variants.{Unstated, Satisfiable, Unsatisfiable, Unknown}
 use borrow.Author.Needs.{needs}
 use Rattle.decode.proofs.by_verdict.Statement.{statement}
 use Rattle.decode.proofs.by_verdict.Tie as tie

@@ -31,7 +31,7 @@ use Rattle.hoa_labels.proofs.atoms.proposition.Reads as proposition-rea
 use Rattle.hoa_labels.proofs.atoms.constant.Reads as constant-reads
 use Rattle.hoa_labels.proofs.closed.Reads as closed-reads
 use Rattle.hoa_labels.proofs.tokens.label_token.Reads as label-token-reads
-use Rattle.hoa_tokens.proofs.offset.Reads as offset-reads
+use Rattle.hoa_offsets.proofs.offset.Reads as offset-reads
 use Rattle.hoa_labels.proofs.+and+or+unary.{statement}
 use Rattle.hoa_labels.proofs.+and+or+unary.Tie.{close}
 

@@ -1,5 +1,5 @@
 -- `made` meets its contract.
-use Rattle.hoa_read.proofs.TableLaws.{made-is}
+use Rattle.hoa_read.proofs.EndLaws.{made-is}
 use Rattle.hoa_read.proofs.made.Statement.{statement}
 use Rattle.hoa_read.proofs.made.Tie as tie
 

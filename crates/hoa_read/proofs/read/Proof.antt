@@ -21,8 +21,8 @@ header-requires c κs = search needs
 enum-known-answer : tie.Need-enum-known-answer
 enum-known-answer c = search needs
 
-body-requires : tie.Need-body-requires
-body-requires c κs =
+from-body-requires : tie.Need-from-body-requires
+from-body-requires c κs =
     let s = now (c .before .before .before .before .before .before .before .args .text) in
     read-bounded s (c .before .before .before .before .before .if1 .left) _ _ (subst (Answered s (Hoa.header (tokens s)) (c .before .before .before .before .header .result .automaton)) (c .before .answer .given .1) (c .before .before .before .before .header .ensures))
 
@@ -35,7 +35,7 @@ refused-requires-2 c κs = search needs
 returns-2 : tie.Need-returns-2
 returns-2 c =
     let s = now (c .before .before .before .before .before .before .before .before .args .text) in
-    tells _ _ (read-opened s (c .before .before .before .before .before .before .if1 .left) _ _ (subst (Answered s (Hoa.header (tokens s)) (c .before .before .before .before .before .header .result .automaton)) (c .before .before .answer .given .1) (c .before .before .before .before .before .header .ensures)) (c .body .result) (c .body .ensures))
+    tells _ _ (read-opened s (c .before .before .before .before .before .before .if1 .left) _ _ (subst (Answered s (Hoa.header (tokens s)) (c .before .before .before .before .before .header .result .automaton)) (c .before .before .answer .given .1) (c .before .before .before .before .before .header .ensures)) (c .from-body .result) (c .from-body .ensures))
 
 returns-3 : tie.Need-returns-3
 returns-3 c =
@@ -51,7 +51,7 @@ read-spec =
     returns
     header-requires
     enum-known-answer
-    body-requires
+    from-body-requires
     enum-known-answer-2
     refused-requires-2
     returns-2

@@ -13,9 +13,6 @@ found-requires c κs = search needs
 enum-told : tie.Need-enum-told
 enum-told c = search needs
 
-replied-requires : tie.Need-replied-requires
-replied-requires c κs = search needs
-
 enum-known-comparison : tie.Need-enum-known-comparison
 enum-known-comparison c = search needs
 
@@ -24,8 +21,8 @@ refused-requires c κs = search needs
 
 returns : tie.Need-returns
 returns c =
-    let a = c .before .before .before .before .args in
-    c .replied .ensures ∙ ap (replied Taken) (c .before .before .before .found .ensures) ∙ ap (judged (a .search) (a .table)) (sym (c .before .enum-told .given .1))
+    let a = c .before .before .before .args in
+    ap (replied Taken) (c .before .before .found .ensures) ∙ ap (judged (a .search) (a .table)) (sym (c .enum-told .given .1))
 
 returns-2 : tie.Need-returns-2
 returns-2 c =
@@ -33,4 +30,4 @@ returns-2 c =
     c .refused .ensures ∙ ap (judged (a .search) (a .table)) (sym (c .before .before .comparison .given .1))
 
 pub judge-spec : {M : Type 1} → statement M
-judge-spec = tie.close (tie.spec found-requires enum-told replied-requires enum-known-comparison refused-requires returns returns-2)
+judge-spec = tie.close (tie.spec found-requires enum-told enum-known-comparison refused-requires returns returns-2)

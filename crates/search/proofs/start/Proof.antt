@@ -26,13 +26,10 @@ returns c =
 fresh-requires : tie.Need-fresh-requires
 fresh-requires c κs = search needs
 
-replied-requires : tie.Need-replied-requires
-replied-requires c κs = search needs
-
 returns-2 : tie.Need-returns-2
 returns-2 c =
-    let e = c .replied .ensures ∙ ap (replied Taken) (c .before .fresh .ensures) in
-    taken (passes-so (c .before .before .before .valid .ensures) (c .before .before .if1 .left)) e (tells e)
+    let e = ap (replied Taken) (c .fresh .ensures) in
+    taken (passes-so (c .before .before .valid .ensures) (c .before .if1 .left)) e (tells e)
 
 pub start-spec : {M : Type 1} → statement M
-start-spec = tie.close (tie.spec valid-requires nothing-requires refused-requires returns fresh-requires replied-requires returns-2)
+start-spec = tie.close (tie.spec valid-requires nothing-requires refused-requires returns fresh-requires returns-2)

@@ -1,4 +1,5 @@
 -- `told` meets its contract.
+use mathlib.Core.Path.{refl}
 use Rattle.search.specs.Replies.{outside, finished, taken}
 use Rattle.meaning.specs.TestLaws.{fails-not, passes-so}
 use Rattle.search.proofs.Laws.{tells}
@@ -15,17 +16,11 @@ refused-requires c κs = search needs
 returns : tie.Need-returns
 returns c = outside (fails-not (c .before .before .in-range .ensures) (c .before .if1 .taken)) (c .refused .ensures) (tells (c .refused .ensures))
 
-replied-requires : tie.Need-replied-requires
-replied-requires c κs = search needs
-
 returns-2 : tie.Need-returns-2
-returns-2 c = finished (passes-so (c .before .before .before .in-range .ensures) (c .before .before .if1 .left)) (c .before .if2 .taken) (c .replied .ensures) (tells (c .replied .ensures))
-
-replied-requires-2 : tie.Need-replied-requires-2
-replied-requires-2 c κs = search needs
+returns-2 c = finished (passes-so (c .before .before .in-range .ensures) (c .before .if1 .left)) (c .if2 .taken) refl refl
 
 returns-3 : tie.Need-returns-3
-returns-3 c = taken (passes-so (c .before .before .before .in-range .ensures) (c .before .before .if1 .left)) (c .before .if2 .left) (c .replied2 .ensures) (tells (c .replied2 .ensures))
+returns-3 c = taken (passes-so (c .before .before .in-range .ensures) (c .before .if1 .left)) (c .if2 .left) refl refl
 
 pub told-spec : {M : Type 1} → statement M
-told-spec = tie.close (tie.spec in-range-requires refused-requires returns replied-requires returns-2 replied-requires-2 returns-3)
+told-spec = tie.close (tie.spec in-range-requires refused-requires returns returns-2 returns-3)

@@ -1,6 +1,7 @@
 -- `answer_at` meets its contract.
 use Rattle.solver_text.specs.Machine.{answerAt}
-use Rattle.solver_text.proofs.PlaceTags.{tagged, accepted}
+use Rattle.solver_scan.proofs.PlaceTags.{tagged}
+use Rattle.solver_text.proofs.Laws.{accepted}
 use borrow.Author.Needs.{needs}
 use Rattle.solver_text.proofs.answer_at.Statement.{statement}
 use Rattle.solver_text.proofs.answer_at.Tie as tie

@@ -3,7 +3,7 @@ use mathlib.Core.Path.{refl, _∙_}
 use lib.Bits.{or-lt}
 use lib.ListN.{length-set}
 use Rattle.decimal.specs.Writing.{wrote-length}
-use Rattle.clause_list.proofs.Laws.{stored, wrote-after, premise-short, premise-eight, positive-of}
+use Rattle.clause_indices.specs.Literals.{stored, wrote-after, premise-short, premise-eight, positive-of}
 use borrow.Author.Needs.{needs}
 use native.Mathlib.Omega.{arith}
 use Rattle.clause_list.proofs.groups.extension.Statement.{statement}

@@ -2,7 +2,7 @@
 use mathlib.Core.Path.{refl, _∙_}
 use lib.Pow.{pow-pos}
 use lib.ListN.{length-set}
-use Rattle.clause_list.proofs.Laws.{stored, wrote-three, positive-of, negative-of}
+use Rattle.clause_indices.specs.Literals.{stored, wrote-three, positive-of, negative-of}
 use borrow.Author.Needs.{needs}
 use native.Mathlib.Omega.{arith}
 use Rattle.clause_list.proofs.groups.successor.Statement.{statement}

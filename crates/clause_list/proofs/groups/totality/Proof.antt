@@ -4,7 +4,7 @@ use mathlib.Core.Path.{_≡_, refl, _∙_, subst}
 use Rattle.decimal.specs.Wrote.{Wrote}
 use Rattle.decimal.specs.Writing.{wrote-length}
 use Rattle.clause_list.specs.Groups.{totalityOf}
-use Rattle.clause_list.proofs.Laws.{stored, wrote-each-none, wrote-each-more, positive-of}
+use Rattle.clause_indices.specs.Literals.{stored, wrote-each-none, wrote-each-more, positive-of}
 use borrow.Author.Needs.{needs}
 use native.Mathlib.Omega.{arith}
 use Rattle.clause_list.proofs.groups.totality.Statement.{statement}

@@ -1,6 +1,6 @@
 -- `extension_indices` meets its contract.
 use mathlib.Core.Path.{sym, subst}
-use Rattle.clause_list.specs.Indices.{Within}
+use Rattle.clause_indices.specs.Indices.{Within}
 use Rattle.clause_list.specs.Digits.{extension-within}
 use Rattle.clause_list.proofs.Places.{extension-is}
 use native.Mathlib.Omega.{arith}

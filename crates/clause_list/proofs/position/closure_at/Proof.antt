@@ -2,7 +2,7 @@
 use mathlib.Core.Path.{sym, _∙_, subst}
 use borrow.Author.Tests.{not-true, not-false}
 use Rattle.decimal.specs.Writing.{wrote-length}
-use Rattle.clause_list.specs.Indices.{Within}
+use Rattle.clause_indices.specs.Indices.{Within}
 use Rattle.clause_list.specs.Digits.{closure-within}
 use Rattle.clause_list.proofs.Places.{indices-lt, closure-none, closure-written}
 use Rattle.clause_list.proofs.position.closure_at.Statement.{statement}

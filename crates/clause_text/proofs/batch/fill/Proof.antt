@@ -3,7 +3,7 @@ use mathlib.Core.Path.{_∙_}
 use Prim.Native.Nat.{_-_}
 use lib.ListN.{length}
 use Rattle.decimal.specs.Writing.{wrote-length}
-use Rattle.clause_variables.specs.Numbers.{numberOf}
+use Rattle.clause_sizes.specs.Numbers.{numberOf}
 use Rattle.clause_list.specs.Tables.{taskOf}
 use Rattle.clause_text.specs.Filling.{Lines}
 use Rattle.clause_text.proofs.Batches.{lines-none, lines-then, lines-room, lines-filled}

@@ -1,68 +1,63 @@
 -- `more_lines` meets its contract.
 use mathlib.Core.Path.{refl}
-use Prim.Native.Nat.{_+_}
-use Rattle.clause_text.proofs.Batches.{line-further, room-further}
+use Prim.Native.Nat.{_+_, _-_}
+use native.Mathlib.Omega.{arith}
+use lib.ListN.{length}
+use Rattle.clause_text.proofs.Batches.{line-further}
 use Rattle.clause_text.proofs.Blocks.{in-group, extensions-short, extensions-further}
 use borrow.Author.Needs.{needs}
-use native.Mathlib.Omega.{arith}
 use Rattle.clause_text.proofs.batch.more_lines.Statement.{statement}
 use Rattle.clause_text.proofs.batch.more_lines.Tie as tie
 
 sub-room : tie.Need-sub-room
 sub-room c = search needs
 
-next-line-if-room-requires : tie.Need-next-line-if-room-requires
-next-line-if-room-requires c κs = search needs
+add-before : tie.Need-add-before
+add-before c = search needs
+
+add-if1 : tie.Need-add-if1
+add-if1 c = search needs
+
+next-line-requires : tie.Need-next-line-requires
+next-line-requires c κs = search needs
 
 same-length : tie.Need-same-length
 same-length c = search needs
 
 returns : tie.Need-returns
-returns c = room-further _ _ _ (c .before .before .before .before .before .before .pre .1 .1) (c .before .before .next-line-if-room .ensures)
+returns c = line-further _ _ _ (c .before .before .before .before .before .before .before .before .pre .1 .1) (c .before .before .next-line .ensures)
 
-add-before : tie.Need-add-before
-add-before c = search needs
+sub-block-lines : tie.Need-sub-block-lines
+sub-block-lines c =
+    let s = c .before .before .before .before in
+    let g = s .args .g in
+    in-group (length (s .args .text .now) - s .args .at) (s .args .from) (g .first + g .second) (g .third) (c .if1 .left) .1
 
-add-if2 : tie.Need-add-if2
-add-if2 c = search needs
+block-lines-requires : tie.Need-block-lines-requires
+block-lines-requires c κs =
+    let s = c .before .before .before .before .before .before .before .before .before .before .before in
+    let g = s .args .g in
+    let (room, from, to) = in-group (length (s .args .text .now) - s .args .at) (s .args .from) (g .first + g .second) (g .third) (c .before .before .before .before .before .before .before .if1 .left) in
+    (s .pre .0 .0, (extensions-short (s .args .z) (s .args .start .0) _ _ (s .pre .0 .0) (s .pre .1 .0) (s .pre .0 .1), (omega (arith, from, to, s .pre .1 .0 .third-is), omega (arith, s .pre .1 .1, room))))
 
-next-line-requires : tie.Need-next-line-requires
-next-line-requires c κs = let s = c .before .before .before .before .before .before in (s .pre .0, (s .pre .1 .0, omega (arith, s .pre .1 .1, c .before .before .before .before .if1 .left)))
+add-t18 : tie.Need-add-t18
+add-t18 c =
+    let (lines, some) = c .before .before .before .block-lines .ensures in
+    let k = c .before .before .before .before .before .before .before .before .before .before .before .before .before .before .before .pre .1 .0 in
+    omega (arith, lines .next, lines .within, k .third-is, k .all-is, k .all-le)
 
 same-length-2 : tie.Need-same-length-2
 same-length-2 c = search needs
 
 returns-2 : tie.Need-returns-2
-returns-2 c = line-further _ _ _ (c .before .before .before .before .before .before .before .before .before .pre .1 .1) (c .before .before .next-line .ensures)
-
-sub-block-lines : tie.Need-sub-block-lines
-sub-block-lines c =
-    let s = c .before .before .before .before .before in
+returns-2 c =
+    let s = c .before .before .before .before .before .before .before .before .before .before .before .before .before .before .before in
     let g = s .args .g in
-    in-group (s .args .from) (g .first + g .second) (g .third) (c .if2 .left) .0
-
-block-lines-requires : tie.Need-block-lines-requires
-block-lines-requires c κs =
-    let s = c .before .before .before .before .before .before .before .before .before .before .before .before in
-    let g = s .args .g in
-    let (from, to) = in-group (s .args .from) (g .first + g .second) (g .third) (c .before .before .before .before .before .before .before .if2 .left) in
-    (s .pre .0 .0, (extensions-short (s .args .z) (s .args .start .0) _ _ (s .pre .0 .0) (s .pre .1 .0) (s .pre .0 .1), (omega (arith, from, to, s .pre .1 .0 .third-is), omega (arith, s .pre .1 .1, c .before .before .before .before .before .before .before .before .before .before .if1 .left))))
-
-add-t18 : tie.Need-add-t18
-add-t18 c = let (lines, some) = c .before .before .before .block-lines .ensures in let k = c .before .before .before .before .before .before .before .before .before .before .before .before .before .before .before .before .pre .1 .0 in omega (arith, lines .next, lines .within, k .third-is, k .all-is, k .all-le)
-
-same-length-3 : tie.Need-same-length-3
-same-length-3 c = search needs
-
-returns-3 : tie.Need-returns-3
-returns-3 c =
-    let s = c .before .before .before .before .before .before .before .before .before .before .before .before .before .before .before .before in
-    let g = s .args .g in
-    let (from, to) = in-group (s .args .from) (g .first + g .second) (g .third) (c .before .before .before .before .before .before .before .before .before .before .before .if2 .left) in
+    let (room, from, to) = in-group (length (s .args .text .now) - s .args .at) (s .args .from) (g .first + g .second) (g .third) (c .before .before .before .before .before .before .before .before .before .before .before .if1 .left) in
     let (lines, some) = c .before .before .before .block-lines .ensures in
     extensions-further (s .args .z) (s .args .start .0) _ _ (s .pre .0 .0) (s .pre .1 .0) lines (s .args .from) _ (omega (arith, from)) refl some
 
 pub more-lines-spec : {M : Type 1} → statement M
 more-lines-spec =
     tie.close
-    (tie.spec sub-room next-line-if-room-requires same-length returns add-before add-if2 next-line-requires same-length-2 returns-2 sub-block-lines block-lines-requires add-t18 same-length-3 returns-3)
+    (tie.spec sub-room add-before add-if1 next-line-requires same-length returns sub-block-lines block-lines-requires add-t18 same-length-2 returns-2)

@@ -1,36 +1,43 @@
 -- `keep_literal` meets its contract.
-use mathlib.Core.Path.{_≡_, _∙_, subst}
+use mathlib.Core.Path.{_≡_, ap, _∙_}
 use mathlib.Core.List.{[], _∷_}
+use Prim.Native.Nat.{_+_, _-_, _*_, _≤_}
+use native.Mathlib.Omega.{arith}
 use mir.Syntax.{w32}
 use mir.Val.{toZ, ofZ}
 use Rattle.decimal.specs.Wrote.{Wrote}
-use Rattle.clause_text.specs.Pieces.{spacedText}
+use Rattle.clause_words.specs.Text.{spacedText}
+use Rattle.clause_indices.specs.Literals.{stored}
 use Rattle.clause_text.specs.Blocks.{signed}
-use Rattle.clause_list.proofs.Laws.{stored}
-use Rattle.clause_text.proofs.Literals.{signed-le}
+use Rattle.clause_text.proofs.Literals.{literals-kept}
 use borrow.Author.Needs.{needs}
-use native.Mathlib.Omega.{arith}
 use Rattle.clause_text.proofs.keeping.keep_literal.Statement.{statement}
 use Rattle.clause_text.proofs.keeping.keep_literal.Tie as tie
 
--- the literal that is written
-written : (c : tie.After-write-spaced-arg) → toZ w32 (ofZ w32 (c .before .literal .result)) ≡ signed (c .before .before .args .minus) (c .before .before .args .variable)
-written c = stored (c .before .literal .ok) ∙ c .before .literal .ensures
+-- the literal stands in the slot
+kept : (c : tie.After-write-literals)
+    → (c .before .before .before .before .args .at ≤ c .write-literals .result) × (c .write-literals .result - c .before .before .before .before .args .at ≤ 12)
+    × Wrote (c .before .before .before .before .args .kept .now) (c .before .before .before .before .args .at) (spacedText (signed (c .before .before .before .before .args .minus) (c .before .before .before .before .args .variable) ∷ [])) (c .write-literals .last .1 .0) (c .before .before .before .before .args .at + (c .write-literals .result - c .before .before .before .before .args .at))
+kept c =
+    literals-kept (toZ w32 (ofZ w32 (c .before .before .before .literal .result)) ∷ []) _ (ap (λ x. x ∷ []) (stored (c .before .before .before .literal .ok) ∙ c .before .before .before .literal .ensures)) (c .write-literals .ensures) (omega (arith, c .before .before .before .before .pre .1, c .before .write-literals-arg .given .0))
 
 literal-requires : tie.Need-literal-requires
 literal-requires c κs = search needs
 
-write-spaced-requires : tie.Need-write-spaced-requires
-write-spaced-requires c κs = rw (written c) (omega (arith, signed-le (c .before .before .args .minus) (c .before .before .args .variable) (c .before .before .pre .0), c .before .before .pre .1, c .write-spaced-arg .given .0))
+slice-aggregate-write-literals : tie.Need-slice-aggregate-write-literals
+slice-aggregate-write-literals c = search needs
+
+write-literals-requires : tie.Need-write-literals-requires
+write-literals-requires c κs = tt
 
 sub-result : tie.Need-sub-result
-sub-result c = search needs
+sub-result c = kept c .0
 
 cast-result : tie.Need-cast-result
-cast-result c = let w = rw (written (c .before)) at (c .write-spaced .ensures) in omega (arith, w .next, signed-le (c .before .before .before .args .minus) (c .before .before .before .args .variable) (c .before .before .before .pre .0))
+cast-result c = omega (arith, kept c .1)
 
 returns : tie.Need-returns
-returns c = let w = rw (written (c .before)) at (c .write-spaced .ensures) in subst (Wrote (c .before .before .before .args .kept .now) (c .before .before .before .args .at) (spacedText (signed (c .before .before .before .args .minus) (c .before .before .before .args .variable) ∷ [])) (c .write-spaced .last .1 .0)) (omega (arith, w .next)) w
+returns c = (kept c .2, omega (arith, kept c .1))
 
 pub keep-literal-spec : {M : Type 1} → statement M
-keep-literal-spec = tie.close (tie.spec literal-requires write-spaced-requires sub-result cast-result returns)
+keep-literal-spec = tie.close (tie.spec literal-requires slice-aggregate-write-literals write-literals-requires sub-result cast-result returns)

@@ -1,6 +1,6 @@
 -- `literal` meets its contract.
 use mathlib.Core.Path.{sym, ap, _∙_}
-use Rattle.clause_list.proofs.Laws.{stored}
+use Rattle.clause_indices.specs.Literals.{stored}
 use borrow.Author.Needs.{needs}
 use native.Mathlib.Omega.{arith}
 use Rattle.clause_text.specs.Blocks.{signed}

@@ -1,5 +1,5 @@
 -- `mark_number` meets its contract: each digit keeps the number below the product of the bounds.
-use Rattle.clause_variables.specs.Limits.{steps-le, marks-le}
+use Rattle.clause_sizes.specs.Limits.{steps-le, marks-le}
 use Rattle.clause_variables.proofs.Laws.{row-lt, mark-row-lt, mark-lt, mark-is}
 use native.Mathlib.Omega.{arith}
 use Rattle.clause_variables.proofs.numbers.mark_number.Statement.{statement}

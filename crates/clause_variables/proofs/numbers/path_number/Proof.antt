@@ -1,5 +1,5 @@
 -- `path_number` meets its contract: each digit keeps the number below the product of the bounds.
-use Rattle.clause_variables.specs.Limits.{marks-le, steps-le}
+use Rattle.clause_sizes.specs.Limits.{marks-le, steps-le}
 use Rattle.clause_variables.proofs.Laws.{path-lt, path-is}
 use native.Mathlib.Omega.{arith}
 use Rattle.clause_variables.proofs.numbers.path_number.Statement.{statement}

@@ -10,7 +10,7 @@ use lib.ListN.{getD}
 use Rattle.encoding.specs.Variables.{step}
 use Rattle.encoding.specs.Clauses.{destination}
 use Rattle.encoding.specs.Lowest.{lowest-is, lowest-none}
-use Rattle.clause_variables.specs.Numbers.{numberOf}
+use Rattle.clause_sizes.specs.Numbers.{numberOf}
 use Rattle.decode.specs.Kept.{step-slot}
 use Rattle.decode.proofs.cells.lowest_step.Statement.{statement}
 use Rattle.decode.proofs.cells.lowest_step.Tie as tie

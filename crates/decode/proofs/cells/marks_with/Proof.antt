@@ -7,7 +7,7 @@ use lib.Dec.{eqb}
 use lib.ListN.{getD}
 use Rattle.meaning.specs.BitSet.{bit}
 use Rattle.encoding.specs.Variables.{mark}
-use Rattle.clause_variables.specs.Numbers.{numberOf}
+use Rattle.clause_sizes.specs.Numbers.{numberOf}
 use Rattle.decode.specs.Kept.{mark-slot}
 use Rattle.decode.proofs.Laws.{upper, upper-none, upper-more, upper-all, upper-lt}
 use Rattle.decode.proofs.cells.marks_with.Statement.{statement}

@@ -18,6 +18,11 @@ add-cell c =
     let s = c .before in
     omega (arith, cell-lt (s .pre .0) (s .args .q) (s .args .l) (s .pre .1) (s .pre .2))
 
+cast-bracketed : tie.Need-cast-bracketed
+cast-bracketed c =
+    let s = c .before .before .before in
+    omega (arith, cell-lt (s .pre .0) (s .args .q) (s .args .l) (s .pre .1) (s .pre .2))
+
 bracketed-requires : tie.Need-bracketed-requires
 bracketed-requires c κs =
     let s = c .before .before .before .before in
@@ -70,6 +75,7 @@ edge-line-spec =
     (tie.spec
     mul-cell
     add-cell
+    cast-bracketed
     bracketed-requires
     array-read-number
     cast-number

@@ -1,8 +1,8 @@
 -- `Reader::finish` meets its contract.
 use mathlib.Core.Path.{ap, ap₂, subst, _∙_}
 use Prim.Native.Nat.{ℕ}
-use Rattle.clause_variables.specs.declared.sizes.Sizes.{Sizes}
-use Rattle.clause_variables.specs.Numbers.{lastVariable}
+use Rattle.clause_sizes.specs.declared.Sizes.{Sizes}
+use Rattle.clause_sizes.specs.Numbers.{lastVariable}
 use Rattle.solver_text.specs.Machine.{told, end}
 use Rattle.solver_text.specs.Objection.{Judged}
 use Rattle.solver_text.proofs.CallLaws.{judged-fits, called-read, called-refused}
@@ -22,10 +22,7 @@ variables-of-requires c κs =
     judged-fits _ _ _ _ (subst (Judged (a .reference) (a .n) (a .m) (a .self)) (c .before .z .given .1) (c .before .before .before .judge .ensures))
 
 end-text-requires : tie.Need-end-text-requires
-end-text-requires c κs =
-    let a = c .before .before .before .before .before .args in
-    let j = subst (Judged (a .reference) (a .n) (a .m) (a .self)) (c .before .before .z .given .1) (c .before .before .before .before .judge .ensures) in
-    (j .0, c .variables-of .ensures .2)
+end-text-requires c κs = search needs
 
 enum-known-x : tie.Need-enum-known-x
 enum-known-x c = search needs

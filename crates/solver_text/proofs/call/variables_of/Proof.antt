@@ -1,6 +1,6 @@
 -- `call::variables_of` meets its contract.
 use mathlib.Core.Path.{refl}
-use Rattle.clause_variables.specs.Limits.{marks-le}
+use Rattle.clause_sizes.specs.Limits.{marks-le}
 use borrow.Author.Needs.{needs}
 use native.Mathlib.Omega.{arith}
 use Rattle.solver_text.proofs.call.variables_of.Statement.{statement}
@@ -16,7 +16,7 @@ cast-t4 : tie.Need-cast-t4
 cast-t4 c = omega (arith, marks-le (c .before .before .pre))
 
 returns : tie.Need-returns
-returns c = (c .before .last-variable .ensures .there (c .before .before .pre), refl, marks-le (c .before .before .pre))
+returns c = (c .before .last-variable .ensures .there (c .before .before .pre), refl)
 
 pub variables-of-spec : {M : Type 1} → statement M
 variables-of-spec = tie.close (tie.spec last-variable-requires cast-t3 cast-t4 returns)

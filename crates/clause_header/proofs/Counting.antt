@@ -1,0 +1,98 @@
+-- The counts of the header.
+use mathlib.Core.Path.{_≡_, refl, sym, ap, ap₂, _∙_}
+use mathlib.Core.Logic.{_≢_}
+use Prim.Native.Nat.{ℕ, _+_, _-_, _*_, _/_, _%_, _^_, _≤_, _<_}
+use native.Mathlib.Nat.{mul-le-mul}
+use native.Mathlib.Numerals.{add-one}
+use native.Mathlib.Omega.{arith}
+use borrow.Author.Tests.{eq-eqb, ne-eqb}
+use lib.ListN.{length}
+use Rattle.automaton.specs.declared.Automaton.{Automaton}
+use Rattle.automaton.specs.Value.{Valid}
+use Rattle.automaton.specs.View.{view}
+use Rattle.encoding.specs.Variables.{base-variables}
+use Rattle.encoding.specs.Clauses.{base-file}
+use Rattle.encoding.specs.Loops.{total}
+use Rattle.encoding.specs.Base.{base-length}
+use Rattle.encoding.specs.Numbering.{split}
+use Rattle.clause_sizes.specs.declared.Sizes.{Sizes}
+use Rattle.clause_sizes.specs.Sizes.{Dimensioned, Fitting}
+use Rattle.clause_sizes.specs.Limits.{candidate-subsets-le}
+use Rattle.clause_sizes.specs.Numbers.{counted, lastVariable}
+use Rattle.clause_indices.specs.declared.extent.Extent.{Extent}
+use Rattle.clause_sizes.specs.Measured.{Measured}
+use Rattle.clause_list.specs.Tables.{tabled}
+use Rattle.clause_list.specs.Measured.{measured-tables}
+use Rattle.clause_indices.specs.Indices.{ExtentOf}
+use Rattle.clause_header.specs.FullPairs.{full-pairs-le}
+use Rattle.clause_header.specs.ClosureCount.{pairsFor, closureCount, closure-length}
+use Rattle.clause_header.specs.declared.Totals.{Totals}
+use Rattle.clause_header.specs.declared.Totals.the-variants.{Of, Refused}
+use Rattle.clause_header.specs.Header.{HeaderTotals, Headed}
+
+-- ---- a sum in a loop
+
+pub total-none : (h : ℕ → ℕ) → 0 ≡ total 0 h
+unfolding total
+total-none h = refl
+
+pub total-more : (i : ℕ) (h : ℕ → ℕ) {s t : ℕ} → s ≡ total i h → t ≡ h i → s + t ≡ total (i + 1) h
+unfolding total
+total-more i h e q = rw (add-one i) (ap₂ _+_ e q)
+
+-- ---- the pairs I, K
+
+module _ {z : Sizes} (f : Fitting z) where
+  pub pairs-le : z .candidate .subsets * z .candidate .subsets ≤ 256
+  pairs-le = mul-le-mul (candidate-subsets-le f) (candidate-subsets-le f)
+
+  pub full-le : {p : ℕ} → p ≡ 3 ^ z .candidate .sets → p ≤ z .candidate .subsets * z .candidate .subsets
+  full-le e = rw (e, f .candidate-subsets) (full-pairs-le (z .candidate .sets))
+
+  pub pairs-other : {p : ℕ} (u : ℕ) → p ≡ 3 ^ z .candidate .sets → u ≡ z .reference .subsets - 1
+      → z .candidate .subsets * z .candidate .subsets - p ≡ pairsFor z u
+  pairs-other u e q = rw (e, f .candidate-subsets, eq-eqb u (2 ^ z .reference .sets - 1) (q ∙ ap (λ x. x - 1) (f .reference-subsets)))
+
+  pub pairs-full : {p : ℕ} (u : ℕ) → p ≡ 3 ^ z .candidate .sets → u ≢ z .reference .subsets - 1 → p ≡ pairsFor z u
+  pairs-full u e q = rw (e, ne-eqb u (2 ^ z .reference .sets - 1) (λ i. q (i ∙ ap (λ x. x - 1) (sym (f .reference-subsets)))))
+
+  -- ---- the transitions
+
+  pub transitions-le : z .reference .states * z .letters ≤ 256
+  transitions-le = mul-le-mul (f .r-le) (f .letters-le)
+
+  pub transition-place : (y : ℕ) → y < z .reference .states * z .letters → (y / z .letters < 16) × (y % z .letters < 16)
+  transition-place y h =
+      let s = split y (z .reference .states) (z .letters) h in
+      (omega (arith, s .0, f .r-le), omega (arith, s .1, f .letters-le))
+
+-- ---- C
+
+pub square-cap : {n : ℕ} → n ≤ 8 → n * n ≤ 64
+square-cap h = mul-le-mul h h
+
+pub closures-cap : {n c : ℕ} → n ≤ 8 → c ≤ 1048576 → n * n * c ≤ 67108864
+closures-cap h l = mul-le-mul (square-cap h) l
+
+module _ {a : Automaton} {z : Sizes} (w : Measured a z) where
+  pub variables-are : lastVariable z ≡ base-variables (view a) (z .candidate .states) (z .candidate .sets)
+  variables-are = ap (λ y. base-variables (counted y) (z .candidate .states) (z .candidate .sets)) (w .sized)
+
+  pub clauses-are : {g : Extent} {c : ℕ} → ExtentOf z g → c ≡ closureCount z (a .marks)
+      → g .first + g .second + g .third + z .candidate .states * z .candidate .states * c ≡ length (base-file (view a) (z .candidate .states) (z .candidate .sets))
+  clauses-are k e =
+      omega (
+        arith,
+        k .first-is,
+        k .second-is,
+        k .third-is,
+        base-length (tabled z (a .start) (a .destinations) (a .marks)) (z .candidate .states) (z .candidate .sets),
+        closure-length z (a .start) (a .destinations) (a .marks) (measured-tables w),
+        ap (λ c. z .candidate .states * z .candidate .states * c) e,
+      )
+      ∙ ap (λ y. length (base-file (tabled y (a .start) (a .destinations) (a .marks)) (z .candidate .states) (z .candidate .sets))) (w .sized)
+
+-- the header's answer, where nothing is turned down
+pub headed : (a : Automaton) (n m : ℕ) (t : Totals) → Valid a → Dimensioned n m → HeaderTotals a n m t → Headed a n m t
+headed a n m (Of last count) v i h = (v, i, h)
+headed a n m (Refused f) v i h = absurd h

@@ -1,0 +1,4 @@
+pub mod Sums
+pub mod FullPairs
+pub mod ClosureCount
+pub mod Header

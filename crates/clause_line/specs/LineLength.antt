@@ -1,0 +1,107 @@
+-- 80 BYTES SUFFICE for a line: a clause has at most 8 literals, and a literal at most 7 digits and a minus.
+use mathlib.Core.Path.{_≡_, refl, sym, ap, _∙_, subst}
+use mathlib.Core.Logic.{⊎-elim}
+use mathlib.Core.List.{List, [], _∷_, List·Memᴰ, List·Memᴰ·head, List·Memᴰ·tail}
+use Prim.Native.Nat.{ℕ, zero, suc, _+_, _*_, _^_, _≤_, _<_}
+use native.Mathlib.Nat.{mul-one, mul-le-mul}
+use native.Mathlib.Omega.{arith}
+use lib.IntN.{ℤ, pos, negsuc, negℤ, natAbs}
+use lib.ListN.{length, length-append}
+use lib.Pow.{pow-mono}
+use Rattle.meaning.specs.Automata.{Aut, WellFormed}
+use Rattle.meaning.specs.TestLaws.{all-same}
+use Rattle.automaton.specs.declared.Automaton.{Automaton}
+use Rattle.automaton.specs.Value.{Valid}
+use Rattle.automaton.specs.View.{view}
+use Rattle.automaton.specs.ViewLaws.{view-formed}
+use Rattle.encoding.specs.Variables.{Task, Var, base, base-number, base-variables}
+use Rattle.encoding.specs.Clauses.{not-marks, totality, initial, successor, extension, closure, base-file}
+use Rattle.encoding.specs.Loops.{each-length}
+use Rattle.encoding.specs.Membership.{Listed, a-totality, the-initial, a-successor, an-extension, a-closure, listed}
+use Rattle.encoding.specs.Literals.{IsLiteral, literals}
+use Rattle.encoding.specs.Base.{base-numbering, base-well-posed}
+use Rattle.decimal.specs.Digits.{decimal-at-most}
+use Rattle.clause_sizes.specs.declared.Sizes.{Sizes}
+use Rattle.clause_sizes.specs.Sizes.{Dimensioned}
+use Rattle.clause_sizes.specs.Numbers.{numberOf}
+use Rattle.clause_list.specs.Tables.{tabled, taskOf, Tables}
+use Rattle.clause_list.specs.Next.{handed, next-clause, clauses-from}
+use Rattle.clause_list.specs.Following.{from-in-file, found-in-file}
+use Rattle.clause_step.specs.Step.{found-from}
+use Rattle.clause_words.specs.Text.{literalText, lineText}
+
+-- ---- the text of a literal, and of a line
+
+literal-le : (x : ℤ) → natAbs x ≤ 4_199_424 → length (literalText x) ≤ 8
+literal-le (pos k) h = omega (arith, decimal-at-most k 7 (omega arith) (omega arith))
+literal-le (negsuc k) h = omega (arith, decimal-at-most (k + 1) 7 (omega arith) (omega arith))
+
+line-le : (c : List ℤ) → ((x : ℤ) → List·Memᴰ x c → natAbs x ≤ 4_199_424) → length (lineText c) ≤ 9 * length c + 2
+line-le [] h = omega arith
+line-le (x ∷ c) h =
+    let ih : length (lineText c) ≤ 9 * length c + 2 = line-le c (λ y k. h y (List·Memᴰ·tail k)) in
+    simp length-append (omega (arith, literal-le x (h x (List·Memᴰ·head refl))))
+
+-- ---- the clauses
+
+module _ (T : Task) (num : Var → ℕ) where
+  marks-length : (p l t K : ℕ) → length (not-marks T num p l t K) ≡ T .m
+  unfolding not-marks
+  marks-length p l t K = each-length (T .m) 1 _ (λ i h. refl) ∙ mul-one (T .m)
+
+  clause-length : (c : List ℤ) → T .n ≤ 8 → T .m ≤ 4 → Listed T num c → length c ≤ 8
+  unfolding totality initial successor extension closure
+  clause-length c hn hm (a-totality q l hq hl e) =
+      omega (arith, ap length e ∙ each-length (T .n) 1 (λ p. pos (num (Var.step q l p)) ∷ []) (λ i h. refl))
+  clause-length c hn hm (the-initial e) = omega (arith, ap length e)
+  clause-length c hn hm (a-successor q p u l h hu e) = omega (arith, ap length e)
+  clause-length c hn hm (an-extension q p t u v l I J K h₁ h₂ hK k e) = omega (arith, simp length-append at (ap length e), marks-length p l t K)
+  clause-length c hn hm (a-closure q p v l I J K h hv hI hJ hK k x e) = omega (arith, ap length e, marks-length p l q K)
+
+abs-negated : (k : ℕ) → natAbs (negℤ (pos k)) ≡ k
+abs-negated zero = refl
+abs-negated (suc k) = refl
+
+literal-variable : (num : Var → ℕ) (x : ℤ) (y : Var) → IsLiteral num x y → natAbs x ≡ num y
+literal-variable num x y = ⊎-elim (λ e. ap natAbs e) (λ e. ap natAbs e ∙ abs-negated (num y))
+
+pub variables-le : (R : Aut) (n m : ℕ) → n ≤ 8 → m ≤ 4 → R .states ≤ 16 → R .letters ≤ 16 → R .sets ≤ 4 → base-variables R n m ≤ 4_199_424
+variables-le R n m hn hm hr hL hs =
+    let M : 2 ^ m ≤ 16 = pow-mono {j = 4} hm in
+    let S : 2 ^ R .sets ≤ 16 = pow-mono {j = 4} hs in
+    let steps : n * n * R .letters ≤ 1024 = mul-le-mul (mul-le-mul hn hn) hL in
+    let marks : n * n * R .letters * m ≤ 4096 = mul-le-mul steps hm in
+    let paths : n * R .states * n * R .states * 2 ^ m * 2 ^ R .sets ≤ 4_194_304 = mul-le-mul (mul-le-mul (mul-le-mul (mul-le-mul (mul-le-mul hn hr) hn) hr) M) S in
+    omega arith
+
+-- a line of the file
+file-line-le : (R : Aut) (n m : ℕ) → WellFormed R → 0 < n → n ≤ 8 → m ≤ 4 → R .states ≤ 16 → R .letters ≤ 16 → R .sets ≤ 4
+    → (c : List ℤ) → List·Memᴰ c (base-file R n m) → length (lineText c) ≤ 80
+file-line-le R n m F some hn hm hr hL hs c k =
+    let num = base-number R n m in
+    omega (
+      arith,
+      clause-length (base R n m) num c hn hm (listed (base R n m) num c .0 k),
+      line-le c (λ x i.
+          let (y, here, e) = literals (base-well-posed R n m F some) num c k x i in
+          omega (arith, literal-variable num x y e, base-numbering R n m .to-last y here, variables-le R n m hn hm hr hL hs)),
+    )
+
+pub found-line-le : (z : Sizes) (start : ℕ) (destinations marks : List ℕ) → Tables z destinations marks → start < z .reference .states
+    → {c : List ℤ} {y : ℕ} (x : ℕ) → next-clause (taskOf z start destinations marks) (numberOf z) x ≡ handed c y → length (lineText c) ≤ 80
+found-line-le z start destinations marks tables h {c} x e =
+    let f = tables .fits in
+    file-line-le (tabled z start destinations marks) (z .candidate .states) (z .candidate .sets)
+    (record { start-lt = h; step-lt = tables .step-lt; own-sets = all-same (z .reference .sets) })
+    (f .n-some) (f .n-le) (f .m-le) (f .r-le) (f .letters-le) (f .s-le) c (found-in-file (taskOf z start destinations marks) (numberOf z) x e)
+
+module _ {a : Automaton} {n m : ℕ} (v : Valid a) (d : Dimensioned n m) where
+  reference-line-le : (c : List ℤ) → List·Memᴰ c (base-file (view a) n m) → length (lineText c) ≤ 80
+  reference-line-le = file-line-le (view a) n m (view-formed v) (d .n-some) (d .n-le) (d .m-le) (v .states-le) (pow-mono {j = 4} (v .propositions-le)) (v .sets-le)
+
+  -- the line of a clause that is handed out, or is left, of the file for a reference
+  pub step-line-le : (x : ℕ) {c : List ℤ} {y : ℕ} → found-from a n m x ≡ handed c y → length (lineText c) ≤ 80
+  step-line-le x {c} e = reference-line-le c (found-in-file (base (view a) n m) (base-number (view a) n m) x e)
+
+  pub left-line-le : (y : ℕ) {c : List ℤ} {cs : List (List ℤ)} → clauses-from (base (view a) n m) (base-number (view a) n m) y ≡ c ∷ cs → length (lineText c) ≤ 80
+  left-line-le y {c} e = reference-line-le c (from-in-file (base (view a) n m) (base-number (view a) n m) y (subst (List·Memᴰ c) (sym e) (List·Memᴰ·head refl)))

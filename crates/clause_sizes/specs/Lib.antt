@@ -1,0 +1,5 @@
+pub mod Sizes
+pub mod Numbers
+pub mod Measured
+pub mod Limits
+pub mod Conjunctions

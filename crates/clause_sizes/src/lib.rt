@@ -1,0 +1,125 @@
+// The sizes of a clause file, as the other functions carry them.
+ghost use mathlib.Core.Path.{_≡_};
+ghost use mathlib.Core.Logic.{_↔_};
+ghost use mathlib.Core.Bool.{true};
+ghost use Prim.Native.Nat.{_≤_};
+ghost use Rattle.clause_sizes.specs.Sizes.{Counting, Dimensioned, Fitting, Sizing, measured};
+ghost use Rattle.clause_sizes.specs.Numbers.{LastIfAny};
+use automaton::Automaton;
+use bits::powers::power_of_two;
+use refusals::Refusal;
+
+// Of the candidate or of the reference: its states, its acceptance sets, and how many sets of marks there are.
+pub struct Counts {
+    pub states: usize,
+    pub sets: usize,
+    pub subsets: usize,
+}
+
+// `steps` is the number of the last step variable, `marks` that of the last mark variable.
+pub struct Sizes {
+    pub candidate: Counts,
+    pub reference: Counts,
+    pub letters: usize,
+    pub steps: usize,
+    pub marks: usize,
+}
+
+pub enum Sized {
+    Of(Sizes),
+    Refused(Refusal),
+}
+
+// The sizes of the file for a reference, n and m, where there is one.
+pub fn measure(reference: Automaton, n: usize, m: usize) -> Sized
+    ensures { λ r. ⌜ Sizing reference n m r ⌝ }
+{
+    if !reference.valid() {
+        return Sized::Refused(Refusal::Outside);
+    }
+    if !dimensioned(n, m) {
+        return Sized::Refused(Refusal::Dimensions(n, m));
+    }
+    let z = measured(
+        n,
+        m,
+        reference.states,
+        reference.sets,
+        reference.propositions,
+    );
+    Sized::Of(z)
+}
+
+fn dimensioned(n: usize, m: usize) -> bool
+    ensures { λ r. ⌜ (r ≡ true) ↔ Dimensioned n m ⌝ }
+{
+    if n < 1 {
+        return false;
+    }
+    if n > Automaton::CANDIDATE_STATES {
+        return false;
+    }
+    m <= Automaton::SETS
+}
+
+fn measured(n: usize, m: usize, states: usize, sets: usize, propositions: usize) -> Sizes
+    requires { ⌜ (n ≤ 8) × (m ≤ 4) × (sets ≤ 4) × (propositions ≤ 4) ⌝ }
+    ensures { λ r. ⌜ r ≡ measured n m states sets propositions ⌝ }
+{
+    let letters = power_of_two(propositions);
+    let steps = n * n * letters;
+    Sizes {
+        candidate: Counts {
+            states: n,
+            sets: m,
+            subsets: power_of_two(m),
+        },
+        reference: Counts {
+            states,
+            sets,
+            subsets: power_of_two(sets),
+        },
+        letters,
+        steps,
+        marks: steps + steps * m,
+    }
+}
+
+// V: the steps, the marks and the paths; or 0 where no file has these sizes.
+pub fn last_variable(z: Sizes) -> usize
+    ensures { λ r. ⌜ LastIfAny z r ⌝ }
+{
+    if !fitting(z) {
+        return 0;
+    }
+    let pairs = z.candidate.states * z.reference.states;
+    z.marks + pairs * pairs * (z.candidate.subsets * z.reference.subsets)
+}
+
+// Whether a file can have these sizes.
+pub fn fitting(z: Sizes) -> bool
+    ensures { λ r. ⌜ (r ≡ true) ↔ Fitting z ⌝ }
+{
+    let candidate = z.candidate;
+    if !counting(candidate, Automaton::CANDIDATE_STATES) {
+        return false;
+    }
+    let reference = z.reference;
+    if !counting(reference, Automaton::STATES) {
+        return false;
+    }
+    if !((1 <= z.letters) & (z.letters <= Automaton::LETTERS)) {
+        return false;
+    }
+    let steps = candidate.states * candidate.states * z.letters;
+    (z.steps == steps) & (z.marks == steps + steps * candidate.sets)
+}
+
+fn counting(c: Counts, most: usize) -> bool
+    ensures { λ r. ⌜ (r ≡ true) ↔ Counting most c ⌝ }
+{
+    (1 <= c.states)
+        & (c.states <= most)
+        & (c.sets <= Automaton::SETS)
+        & (c.subsets == power_of_two(c.sets))
+}

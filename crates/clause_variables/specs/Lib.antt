@@ -1,4 +1,0 @@
-pub mod Sizes
-pub mod Numbers
-pub mod Measured
-pub mod Limits

@@ -1,4 +1,0 @@
-pub mod Got
-pub mod Reading
-pub mod Given
-pub mod Handed

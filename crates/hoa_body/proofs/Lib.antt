@@ -1,0 +1,4 @@
+pub mod SetLaws
+pub mod TableLaws
+pub mod PartLaws
+pub mod BodyLaws

@@ -1,0 +1,25 @@
+-- What the answer of a function that reads marks says.
+use mathlib.Core.Path.{_≡_}
+use mathlib.Core.List.{List}
+use mathlib.Core.Option.{none}
+use Prim.Native.Nat.{ℕ, _≤_}
+use lib.ListN.{length}
+use Rattle.hoa_text.specs.Grammar.{numberOf, peek, gives, refuses, Parsed}
+use Rattle.hoa_text.specs.Body.{marks}
+use Rattle.hoa_text.specs.Tokens.{left}
+use Rattle.hoa_edges.specs.declared.MarksRead.{MarksRead}
+use Rattle.hoa_edges.specs.declared.MarksRead.the-variants.{Marks, Refused}
+
+-- from i on, x gives the set m, of n sets, and the text behind it begins at e
+pub record Marked (s : List ℕ) (i n : ℕ) (x : Parsed ℕ) (m e : ℕ) : Type 0 where
+  pub is : n ≤ 4 → x ≡ gives (m, left s e)
+  pub from : i ≤ e
+  pub to : e ≤ length s
+
+abbrev pub MarksAnswer : List ℕ → ℕ → ℕ → Parsed ℕ → MarksRead → Type 0
+MarksAnswer s i n x (Marks m e) = Marked s i n x m e
+MarksAnswer s i n x (Refused r) = n ≤ 4 → x ≡ refuses r
+
+-- behind the marks of the set m, where no further number stands
+abbrev pub ClosedAnswer : List ℕ → ℕ → ℕ → MarksRead → Type 0
+ClosedAnswer s i m r = (n : ℕ) → peek numberOf (left s i) ≡ none → MarksAnswer s i n (marks n m (left s i)) r

@@ -1,0 +1,15 @@
+pub mod Assignment
+pub mod Counts
+pub mod Landing
+pub mod Staying
+pub mod Standing
+pub mod Range
+pub mod Ended
+pub mod Spelling
+pub mod Table
+pub mod Agreement
+pub mod Pieces
+pub mod Undecided
+pub mod MidText
+pub mod Further
+pub mod Stated

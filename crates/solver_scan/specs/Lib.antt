@@ -1,0 +1,5 @@
+pub mod SolverText
+pub mod Scanning
+pub mod Cases
+pub mod Words
+pub mod Places
