@@ -18,7 +18,7 @@ use Rattle.solver_scan.specs.declared.Verdict.{Verdict}
 use Rattle.solver_scan.specs.declared.Verdict.the-variants.{Unstated, Satisfiable, Unsatisfiable, Unknown}
 use Rattle.solver_scan.specs.SolverText.{Seen, Outcome, gives, refused, form, unfit, followed, lf, blank, digit, digit19, split, past, nothing, skipped, word, unstated, satisfiable, with-verdict, spelled, verdicts, blanks, verdictLine, literalOf, mentioned, settled, digits, number, token, tokens, line, judged, lines, fenced, outcome}
 use Rattle.solver_scan.specs.Scanning.{scan, atStart, inComment, afterS, beforeWord, spelt, follows, turns, nextLetter, wordDone, inWord, afterWord, afterToken, firstByte, tokenByte, beforeToken, afterMinus, grow, inDigits, byPlace, refusedAt, atLimit, judge, judgeWord, scanByte, scanEndAt}
-use Rattle.solver_text.specs.Machine.{at-rest, unfitting, ending, step, run, endAt, end, fresh, inLiteral, endsLiteral, landed}
+use Rattle.solver_text.specs.Machine.{at-rest, unfitting, ending, step, run, endAt, end, fresh, inLiteral, separated, endsLiteral, landed}
 use Rattle.solver_scan.specs.Cases.{by}
 use Rattle.solver_agreement.specs.Staying.{refused-run}
 use Rattle.solver_literals.specs.Giving.{fits, given}
@@ -209,7 +209,7 @@ module _ (last kept : ℕ) where
       fail c = form-stays r a v n l c f g w (table kept ls)
 
       at-start : (c : Bool) → Step Start c
-      unfolding step landed endsLiteral inLiteral refusedAt scanByte byPlace atStart rest
+      unfolding step landed endsLiteral inLiteral separated scanByte byPlace atStart rest
       at-start c =
           rw here
           (by (eqb b 10) (λ e. rw e (ih Start v n l c f g x w ls alike))
@@ -218,14 +218,14 @@ module _ (last kept : ℕ) where
           (λ i. by (eqb b 118) (λ j. rw (e, k, i, j) (ih AfterToken v n true c f g x w ls alike)) (λ j. rw (e, k, i, j) (fail c))))))
 
       in-comment : (c : Bool) → Step Comment c
-      unfolding step landed endsLiteral inLiteral refusedAt scanByte byPlace inComment rest
+      unfolding step landed endsLiteral inLiteral separated scanByte byPlace inComment rest
       in-comment c =
           rw here
           (by (eqb b 10) (λ e. rw e (ih Start v n l c f g x w ls alike))
           (λ e. by (ltb b 256) (λ k. rw (e, k) (ih Comment v n l c f g x w ls alike)) (λ k. rw (e, k) (fail c))))
 
       after-s : (c : Bool) → Step AfterS c
-      unfolding step landed endsLiteral inLiteral refusedAt scanByte byPlace afterS rest
+      unfolding step landed endsLiteral inLiteral separated scanByte byPlace afterS rest
       after-s c =
           let d = split blank (split lf q .0) in
           rw here
@@ -233,7 +233,7 @@ module _ (last kept : ℕ) where
           (λ e. by (blank b) (λ k. rw (e, k, ← verdict-gapped a (seen v l c ls) (d .0) (d .1)) (ih BeforeWord v n l c f g x w ls alike)) (λ k. rw (e, k) (fail c))))
 
       before-word : (c : Bool) → Step BeforeWord c
-      unfolding step landed endsLiteral inLiteral refusedAt scanByte byPlace beforeWord rest
+      unfolding step landed endsLiteral inLiteral separated scanByte byPlace beforeWord rest
       before-word c =
           let d = split blank (split lf q .0) in
           rw here
@@ -243,7 +243,7 @@ module _ (last kept : ℕ) where
           (λ i. by (eqb b 85) (λ j. rw (e, k, i, j) (ih Word Unsatisfiable 1 l c f g x w ls alike)) (λ j. rw (e, k, i, j) (fail c))))))
 
       in-word : (c : Bool) → Step Word c
-      unfolding step landed endsLiteral inLiteral refusedAt scanByte byPlace inWord wordDone nextLetter rest
+      unfolding step landed endsLiteral inLiteral separated scanByte byPlace inWord wordDone nextLetter rest
       in-word c =
           let y : Verdict → Outcome = λ z. gives (seen z l c ls) in
           let d = split blank (split lf q .0) in
@@ -257,21 +257,21 @@ module _ (last kept : ℕ) where
           (λ i. by (turns v n b) (λ j. rw (i, j) (ih Word Unknown 3 l c f g x w ls alike)) (λ j. rw (i, j) (fail c)))))))
 
       after-word : (c : Bool) → Step AfterWord c
-      unfolding step landed endsLiteral inLiteral refusedAt scanByte byPlace afterWord rest
+      unfolding step landed endsLiteral inLiteral separated scanByte byPlace afterWord rest
       after-word c =
           rw here
           (by (eqb b 10) (λ e. rw (e, lf-not-blank b e) (ih Start v n l c f g x w ls alike))
           (λ e. by (blank b) (λ k. rw (e, k) (ih AfterWord v n l c f g x w ls alike)) (λ k. rw (e, k) (fail c))))
 
       after-token : (c : Bool) → Step AfterToken c
-      unfolding step landed endsLiteral inLiteral refusedAt scanByte byPlace afterToken rest
+      unfolding step landed endsLiteral inLiteral separated scanByte byPlace afterToken rest
       after-token c =
           rw here
           (by (eqb b 10) (λ e. rw (e, lf-not-blank b e) (ih Start v n l c f g x w ls alike))
           (λ e. by (blank b) (λ k. rw (e, k) (ih BeforeToken v n l c f g x w ls alike)) (λ k. rw (e, k) (fail c))))
 
       before-token : (c : Bool) → Step BeforeToken c
-      unfolding step landed endsLiteral inLiteral refusedAt scanByte byPlace beforeToken tokenByte firstByte rest
+      unfolding step landed endsLiteral inLiteral separated scanByte byPlace beforeToken tokenByte firstByte rest
       before-token true =
           rw here
           (by (eqb b 10) (λ e. rw (e, lf-not-blank b e) (ih Start v n l true f g x w ls alike))
@@ -287,7 +287,7 @@ module _ (last kept : ℕ) where
           (λ j. by (digit19 b) (λ m. rw (e, k, i, j, m) (ih Digits v n l false a false (b - 48) (b - 48) ls (inl refl))) (λ m. rw (e, k, i, j, m) (fail false)))))))
 
       after-minus : (c : Bool) → Step AfterMinus c
-      unfolding step landed endsLiteral inLiteral refusedAt scanByte byPlace afterMinus rest
+      unfolding step landed endsLiteral inLiteral separated scanByte byPlace afterMinus rest
       after-minus c =
           rw here
           (by (eqb b 10) (λ e. rw (e, lf-not-19 b e) (fail c))
@@ -295,7 +295,7 @@ module _ (last kept : ℕ) where
           (λ k. by (digit19 b) (λ i. rw (e, k, i) (ih Digits v n l c f g (b - 48) (b - 48) ls (inl refl))) (λ i. rw (e, k, i) (fail c)))))
 
       in-digits : (c : Bool) → Step Digits c
-      unfolding step landed endsLiteral inLiteral refusedAt scanByte byPlace inDigits rest
+      unfolding step landed endsLiteral inLiteral separated scanByte byPlace inDigits rest
       in-digits c =
           let k = split lf q in
           let d = split blank (k .0) in
@@ -319,7 +319,7 @@ module _ (last kept : ℕ) where
           (λ j. by (digit b) (λ i. rw (e, j, i) (ih Digits v n l c f g (x * 10 + (b - 48)) (grow w (b - 48)) ls (alike-grow x w (b - 48) alike))) (λ i. rw (e, j, i) (fail c)))))
 
       after-end : (c : Bool) → Step Ended c
-      unfolding step landed endsLiteral inLiteral refusedAt scanByte byPlace rest
+      unfolding step landed endsLiteral inLiteral separated scanByte byPlace rest
       after-end c = rw here (fail c)
 
     -- ---- byte 4,294,967,295

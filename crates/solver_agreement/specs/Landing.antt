@@ -14,7 +14,7 @@ use Rattle.solver_scan.specs.Scanning.{refusedAt, atLimit, scanByte}
 use Rattle.solver_scan.specs.Cases.{by}
 use Rattle.solver_literals.specs.Giving.{markOf, held, fits, given}
 use Rattle.solver_text.specs.declared.Reader.{Reader}
-use Rattle.solver_text.specs.Machine.{at-rest, unfitting, ending, inLiteral, endsLiteral, landed, step}
+use Rattle.solver_text.specs.Machine.{at-rest, unfitting, ending, inLiteral, separated, endsLiteral, landed, step}
 
 module _ (last kept : ℕ) where
   pub ending-either : (P : Reader → Type 0) (s next : Scan) (t : List ℕ) → P (at-rest (unfitting s) t) → ((u : List ℕ) → P (at-rest next u)) → P (ending last kept s next t)
@@ -28,7 +28,7 @@ module _ (last kept : ℕ) where
 
   -- byte 4,294,967,295 ends no literal
   limit-lands : (p : Place) (s : Scan) (t : List ℕ) → landed p last kept s (atLimit p s) t ≡ at-rest (atLimit p s) t
-  unfolding landed endsLiteral inLiteral atLimit refusedAt
+  unfolding landed endsLiteral inLiteral separated atLimit refusedAt
   limit-lands Start s t = refl
   limit-lands Comment s t = refl
   limit-lands AfterS s t = refl

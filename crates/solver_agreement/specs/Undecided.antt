@@ -21,7 +21,7 @@ use Rattle.solver_scan.specs.declared.Verdict.{Verdict}
 use Rattle.solver_scan.specs.declared.Verdict.the-variants.{Unstated, Satisfiable, Unsatisfiable, Unknown}
 use Rattle.solver_scan.specs.SolverText.{blank, digit, digit19, word, unstated, satisfiable, literalOf}
 use Rattle.solver_scan.specs.Scanning.{scan, to, bad, done, atStart, inComment, afterS, beforeWord, spelt, nextLetter, wordDone, inWord, afterWord, afterToken, beforeToken, afterMinus, inDigits, byPlace, refusedAt, judge, judgeWord, scanEndAt}
-use Rattle.solver_text.specs.Machine.{at-rest, endAt, inLiteral, endsLiteral, landed}
+use Rattle.solver_text.specs.Machine.{at-rest, endAt, inLiteral, separated, endsLiteral, landed}
 use Rattle.solver_scan.specs.Cases.{by, either-way, clash}
 use Rattle.solver_agreement.specs.Landing.{ending-either}
 use Rattle.solver_agreement.specs.Agreement.{failure, resultOf, finalResult}
@@ -116,7 +116,7 @@ module _ (last kept : ℕ) (x : Refusal) where
 
     -- a literal may be followed by a byte that none can have, or by the line's end
     in-digits : GoesOn Digits → ⊥
-    unfolding finalResult endAt inLiteral scanEndAt landed endsLiteral refusedAt byPlace inDigits blank digit
+    unfolding finalResult endAt inLiteral scanEndAt landed endsLiteral separated byPlace inDigits blank digit
     in-digits k = ⊎-elim (unlike a f here) (apart a here) (ending-either last kept P s (to s Start) t (λ e. inl (cc)) (λ u e. inr (judged-at (to s Start) u e)) (k 10 (omega arith)))
       where
         s : Scan

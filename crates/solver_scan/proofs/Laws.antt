@@ -12,8 +12,8 @@ use Rattle.solver_scan.specs.declared.Place.{Place}
 use Rattle.solver_scan.specs.declared.Place.the-variants.{Start, Comment, AfterS, BeforeWord, Word, AfterWord, AfterToken, BeforeToken, AfterMinus, Digits, Ended, BadForm, BadLiteral}
 use Rattle.solver_scan.proofs.Place.{enum}
 use Rattle.solver_scan.specs.SolverText.{blank, digit, digit19}
-use Rattle.solver_scan.specs.Scanning.{bad, tokenByte, firstByte, byPlace, refusedAt, atLimit, scanByte}
-use Rattle.solver_scan.specs.Places.{offset, taken, afterBlank, afterLineFeed, afterOther, otherByte, here, space-taken, tab-taken, line-feed-taken, other-taken}
+use Rattle.solver_scan.specs.Scanning.{bad, tokenByte, firstByte, byPlace, atLimit, scanByte}
+use Rattle.solver_scan.specs.Places.{taken, afterBlank, afterLineFeed, otherByte, space-taken, tab-taken, line-feed-taken, other-taken}
 
 -- ---- bytes
 
@@ -75,47 +75,25 @@ module _ (s x : Scan) (b : ℕ) (on : s .at ≡ 4294967295 → ⊥) where
 pub other-at : (s x : Scan) (b : ℕ) (p : Place) → s .place ≡ p → x ≡ otherByte p s b → x ≡ otherByte (s .place) s b
 other-at s x b p e q = subst (λ y. x ≡ otherByte y s b) (sym e) q
 
-abbrev pub plain : List ℕ
-plain = 1 ∷ 2 ∷ 5 ∷ 6 ∷ 10 ∷ 11 ∷ 12 ∷ []
+-- where no such byte can stand
+abbrev pub barred : List ℕ
+barred = 2 ∷ 5 ∷ 6 ∷ 10 ∷ []
 
-pub other-plain : (s : Scan) (b : ℕ) → OneOf plain (tagOf (declared enum) (s .place)) → taken s (afterOther (s .place)) ≡ otherByte (s .place) s b
-unfolding afterOther otherByte offset refusedAt
-other-plain s b h = go (s .place) refl h
-  where
-    go : (p : Place) → s .place ≡ p → OneOf plain (tagOf (declared enum) p) → taken s (afterOther p) ≡ otherByte p s b
-    go Start e h = absurd (miss plain 0 tt h)
-    go Comment e h = refl
-    go AfterS e h = refl
-    go BeforeWord e h = absurd (miss plain 3 tt h)
-    go Word e h = absurd (miss plain 4 tt h)
-    go AfterWord e h = refl
-    go AfterToken e h = refl
-    go BeforeToken e h = absurd (miss plain 7 tt h)
-    go AfterMinus e h = absurd (miss plain 8 tt h)
-    go Digits e h = absurd (miss plain 9 tt h)
-    go Ended e h = refl
-    go BadForm e h = here s BadForm e
-    go BadLiteral e h = here s BadLiteral e
-
--- the places at which a byte stops that is no token's
-abbrev pub stopping : List ℕ
-stopping = 0 ∷ 2 ∷ 3 ∷ 4 ∷ 5 ∷ 6 ∷ 7 ∷ 8 ∷ 9 ∷ 10 ∷ 11 ∷ []
-
-pub other-stops : (p : Place) → OneOf stopping (tagOf (declared enum) p) → BadForm ≡ afterOther p
-unfolding afterOther
-other-stops Start h = refl
-other-stops Comment h = absurd (miss stopping 1 tt h)
-other-stops AfterS h = refl
-other-stops BeforeWord h = refl
-other-stops Word h = refl
-other-stops AfterWord h = refl
-other-stops AfterToken h = refl
-other-stops BeforeToken h = refl
-other-stops AfterMinus h = refl
-other-stops Digits h = refl
-other-stops Ended h = refl
-other-stops BadForm h = refl
-other-stops BadLiteral h = absurd (miss stopping 12 tt h)
+pub other-barred : (s : Scan) (b : ℕ) (p : Place) → OneOf barred (tagOf (declared enum) p) → bad s ≡ otherByte p s b
+unfolding otherByte
+other-barred s b Start h = absurd (miss barred 0 tt h)
+other-barred s b Comment h = absurd (miss barred 1 tt h)
+other-barred s b AfterS h = refl
+other-barred s b BeforeWord h = absurd (miss barred 3 tt h)
+other-barred s b Word h = absurd (miss barred 4 tt h)
+other-barred s b AfterWord h = refl
+other-barred s b AfterToken h = refl
+other-barred s b BeforeToken h = absurd (miss barred 7 tt h)
+other-barred s b AfterMinus h = absurd (miss barred 8 tt h)
+other-barred s b Digits h = absurd (miss barred 9 tt h)
+other-barred s b Ended h = refl
+other-barred s b BadForm h = absurd (miss barred 11 tt h)
+other-barred s b BadLiteral h = absurd (miss barred 12 tt h)
 
 -- ---- by a field of the state
 

@@ -124,21 +124,6 @@ line-feed-taken s = go (s .place) refl
 
 -- ---- another byte
 
-unfoldable pub afterOther : Place → Place
-afterOther Start = BadForm
-afterOther Comment = Comment
-afterOther AfterS = BadForm
-afterOther BeforeWord = BadForm
-afterOther Word = BadForm
-afterOther AfterWord = BadForm
-afterOther AfterToken = BadForm
-afterOther BeforeToken = BadForm
-afterOther AfterMinus = BadForm
-afterOther Digits = BadForm
-afterOther Ended = BadForm
-afterOther BadForm = BadForm
-afterOther BadLiteral = BadLiteral
-
 unfoldable pub otherByte : Place → Scan → ℕ → Scan
 otherByte Start s b = startByte s b
 otherByte Comment s b = to s Comment

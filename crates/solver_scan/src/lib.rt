@@ -52,20 +52,21 @@ pub enum Verdict {
     Unknown,
 }
 
+// The wide fields stand first, so that the copies in the loop over a text's bytes have no gaps.
 pub struct Scan {
-    pub place: Place,
     // The offset of the next byte; of a refused text, the offset that is reported.
     pub at: u32,
+    // The literal that is being read: its first byte, its number so far, and below whether it has a minus.
+    pub from: u32,
+    pub value: u32,
+    pub place: Place,
     // The verdict, from its first letter on, and how many letters of it were read.
     pub verdict: Verdict,
     pub letters: u8,
     // Whether there was a `v` line, and whether the 0 came.
     pub listed: bool,
     pub closed: bool,
-    // The literal that is being read: its first byte, whether it has a minus, and its number so far.
-    pub from: u32,
     pub minus: bool,
-    pub value: u32,
 }
 
 // One byte more. A blank or a line feed only changes the place; a literal that it ends is not judged here.
@@ -73,13 +74,14 @@ pub fn scan_byte(s: Scan, b: u8) -> Scan
     ensures { λ r. ⌜ r ≡ scanByte s b ⌝ }
 {
     let place = s.place;
+    let v = s.verdict;
     if s.at == 4294967295 {
         return at_limit(s, place);
     }
     match b {
-        b' ' => taken(s, after_blank(s)),
-        b'\t' => taken(s, after_blank(s)),
-        b'\n' => taken(s, after_line_feed(s)),
+        b' ' => taken(s, after_blank(place, v, s.letters)),
+        b'\t' => taken(s, after_blank(place, v, s.letters)),
+        b'\n' => taken(s, after_line_feed(place, v, s.letters)),
         _ => other_byte(s, b),
     }
 }

@@ -1,21 +1,19 @@
 // The next place, where a byte changes nothing else.
 use crate::Place;
-use crate::Scan;
+use crate::Verdict;
 use crate::words::spelt;
 ghost use mathlib.Core.Path.{_≡_};
-ghost use Rattle.solver_scan.specs.Places.{afterBlank, afterLineFeed, afterOther};
+ghost use Rattle.solver_scan.specs.Places.{afterBlank, afterLineFeed};
 
-pub fn after_blank(s: Scan) -> Place
-    ensures { λ r. ⌜ r ≡ afterBlank (s .place) (s .verdict) (s .letters) ⌝ }
+pub fn after_blank(place: Place, v: Verdict, n: u8) -> Place
+    ensures { λ r. ⌜ r ≡ afterBlank place v n ⌝ }
 {
-    let place = s.place;
-    let v = s.verdict;
     match place {
         Place::Start => Place::BadForm,
         Place::Comment => Place::Comment,
         Place::AfterS => Place::BeforeWord,
         Place::BeforeWord => Place::BeforeWord,
-        Place::Word => if spelt(v, s.letters) {
+        Place::Word => if spelt(v, n) {
             Place::AfterWord
         } else {
             Place::BadForm
@@ -31,17 +29,15 @@ pub fn after_blank(s: Scan) -> Place
     }
 }
 
-pub fn after_line_feed(s: Scan) -> Place
-    ensures { λ r. ⌜ r ≡ afterLineFeed (s .place) (s .verdict) (s .letters) ⌝ }
+pub fn after_line_feed(place: Place, v: Verdict, n: u8) -> Place
+    ensures { λ r. ⌜ r ≡ afterLineFeed place v n ⌝ }
 {
-    let place = s.place;
-    let v = s.verdict;
     match place {
         Place::Start => Place::Start,
         Place::Comment => Place::Start,
         Place::AfterS => Place::BadForm,
         Place::BeforeWord => Place::BadForm,
-        Place::Word => if spelt(v, s.letters) {
+        Place::Word => if spelt(v, n) {
             Place::Start
         } else {
             Place::BadForm
@@ -54,16 +50,5 @@ pub fn after_line_feed(s: Scan) -> Place
         Place::Ended => Place::BadForm,
         Place::BadForm => Place::BadForm,
         Place::BadLiteral => Place::BadLiteral,
-    }
-}
-
-// Where neither a token nor the verdict can begin or go on.
-pub fn after_other(place: Place) -> Place
-    ensures { λ r. ⌜ r ≡ afterOther place ⌝ }
-{
-    match place {
-        Place::Comment => Place::Comment,
-        Place::BadLiteral => Place::BadLiteral,
-        _ => Place::BadForm,
     }
 }

@@ -9,7 +9,6 @@ use crate::moves::shut;
 use crate::moves::spelled;
 use crate::moves::taken;
 use crate::moves::valued;
-use crate::places::after_other;
 use crate::words::goes_on;
 use crate::words::turns;
 use crate::words::unstated;
@@ -25,12 +24,15 @@ pub fn other_byte(s: Scan, b: u8) -> Scan
     let place = s.place;
     match place {
         Place::Start => start_byte(s, b),
+        Place::Comment => taken(s, Place::Comment),
         Place::BeforeWord => first_letter(s, b),
         Place::Word => next_letter(s, b),
         Place::BeforeToken => token_byte(s, b),
         Place::AfterMinus => after_minus(s, b),
         Place::Digits => digit(s, b),
-        _ => taken(s, after_other(place)),
+        Place::BadForm => s,
+        Place::BadLiteral => s,
+        _ => malformed(s),
     }
 }
 

@@ -1,5 +1,5 @@
 -- Laws of the bytes of a piece, of literals that end, and of the answer, over plain values.
-use mathlib.Core.Path.{_≡_, refl, sym, ap, _∙_, subst}
+use mathlib.Core.Path.{_≡_, refl, sym, _∙_, subst}
 use mathlib.Core.Bool.{Bool, true, false}
 use mathlib.Core.List.{List, [], _∷_}
 use Prim.Native.Nat.{ℕ, _<_, _≤_, _+_}
@@ -14,11 +14,12 @@ use Rattle.solver_scan.specs.declared.Scan.{Scan}
 use Rattle.solver_scan.specs.declared.Place.{Place}
 use Rattle.solver_scan.specs.declared.Place.the-variants.{Start, Comment, AfterS, BeforeWord, Word, AfterWord, AfterToken, BeforeToken, AfterMinus, Digits, Ended, BadForm, BadLiteral}
 use Rattle.solver_scan.specs.SolverText.{literalOf}
-use Rattle.solver_scan.specs.Scanning.{refusedAt, scanByte, scanEnd, scanEndAt}
+use Rattle.solver_scan.specs.Scanning.{scanByte, scanEnd}
+use Rattle.solver_scan.specs.Cases.{by}
 use Rattle.solver_literals.specs.Giving.{Given, fits, given}
 use Rattle.solver_text.specs.declared.Reader.{Reader}
 use Rattle.solver_text.specs.declared.Answer.the-variants.{Accepted}
-use Rattle.solver_text.specs.Machine.{at-rest, unfitting, ending, inLiteral, endsLiteral, landed, step, run, endAt, end, answerAt}
+use Rattle.solver_text.specs.Machine.{at-rest, unfitting, ending, inLiteral, separated, endsLiteral, landed, step, run, endAt, end, answerAt}
 
 -- ---- the bytes of a piece
 
@@ -72,33 +73,40 @@ not-inside Ended h = refl
 not-inside BadForm h = refl
 not-inside BadLiteral h = refl
 
--- every place at which a literal has ended
-abbrev pub beyond : List ℕ
-beyond = 0 ∷ 1 ∷ 2 ∷ 3 ∷ 4 ∷ 5 ∷ 6 ∷ 7 ∷ 8 ∷ 10 ∷ []
+-- every place that no blank and no line feed of a `v` line brings about
+abbrev pub apart : List ℕ
+apart = 1 ∷ 2 ∷ 3 ∷ 4 ∷ 5 ∷ 6 ∷ 8 ∷ 9 ∷ 10 ∷ 11 ∷ 12 ∷ []
 
-pub ends-beyond : (q : Place) → OneOf beyond (tagOf (declared enum) q) → true ≡ endsLiteral Digits q
-unfolding endsLiteral inLiteral refusedAt
-ends-beyond Start h = refl
-ends-beyond Comment h = refl
-ends-beyond AfterS h = refl
-ends-beyond BeforeWord h = refl
-ends-beyond Word h = refl
-ends-beyond AfterWord h = refl
-ends-beyond AfterToken h = refl
-ends-beyond BeforeToken h = refl
-ends-beyond AfterMinus h = refl
-ends-beyond Digits h = absurd (miss beyond 9 tt h)
-ends-beyond Ended h = refl
-ends-beyond BadForm h = absurd (miss beyond 11 tt h)
-ends-beyond BadLiteral h = absurd (miss beyond 12 tt h)
+not-separated : (q : Place) → OneOf apart (tagOf (declared enum) q) → separated q ≡ false
+unfolding separated
+not-separated Start h = absurd (miss apart 0 tt h)
+not-separated Comment h = refl
+not-separated AfterS h = refl
+not-separated BeforeWord h = refl
+not-separated Word h = refl
+not-separated AfterWord h = refl
+not-separated AfterToken h = refl
+not-separated BeforeToken h = absurd (miss apart 7 tt h)
+not-separated AfterMinus h = refl
+not-separated Digits h = refl
+not-separated Ended h = refl
+not-separated BadForm h = refl
+not-separated BadLiteral h = refl
+
+pub ends-yes : (p q : Place) (r : Bool) → separated q ≡ true → r ≡ inLiteral p → r ≡ endsLiteral p q
+unfolding endsLiteral
+ends-yes p q r h e = rw h (e ∙ by (inLiteral p) (λ k. rw k) (λ k. rw k))
+
+pub ends-no : (p q : Place) → OneOf apart (tagOf (declared enum) q) → false ≡ endsLiteral p q
+unfolding endsLiteral
+ends-no p q h = rw (not-separated q h) (by (inLiteral p) (λ k. rw k) (λ k. rw k))
 
 -- ---- the end of the text
 
 module _ (last kept : ℕ) (s n : Scan) (t : List ℕ) (q : n ≡ scanEnd s) where
-  pub end-literal : (x : Reader) → s .place ≡ Digits → x ≡ ending last kept s n t → x ≡ end last kept (at-rest s t)
-  unfolding endAt inLiteral
-  end-literal x h e =
-      subst (λ p. x ≡ endAt p last kept s t) (sym h) (subst (λ y. x ≡ ending last kept s y t) (q ∙ ap (λ p. scanEndAt p s) h) e)
+  pub end-literal : (x : Reader) → inLiteral (s .place) ≡ true → x ≡ ending last kept s n t → x ≡ end last kept (at-rest s t)
+  unfolding endAt
+  end-literal x h e = rw h (subst (λ y. x ≡ ending last kept s y t) q e)
 
   pub end-plain : inLiteral (s .place) ≡ false → at-rest n t ≡ end last kept (at-rest s t)
   unfolding endAt

@@ -1,7 +1,7 @@
 -- DEFINITION: what a reader makes of each byte and of the end of the text, from every state: it scans the lines (`Scanning` in crate `solver_scan`) and
 -- judges each literal that ends (`Giving` in crate `solver_literals`). On whole texts this is the definition in `SolverText` (law `agrees` in crate
 -- `solver_agreement`), and before the end it turns down just what that definition turns down however the text goes on (law `refused-exactly` there).
-use mathlib.Core.Bool.{Bool, true, false, cond, not, _&&_}
+use mathlib.Core.Bool.{Bool, true, false, cond, _&&_}
 use mathlib.Core.List.{List, [], _∷_}
 use Prim.Native.Nat.{ℕ}
 use lib.ListN.{replicate}
@@ -11,7 +11,7 @@ use Rattle.solver_scan.specs.declared.Place.{Place}
 use Rattle.solver_scan.specs.declared.Place.the-variants.{Start, Comment, AfterS, BeforeWord, Word, AfterWord, AfterToken, BeforeToken, AfterMinus, Digits, Ended, BadForm, BadLiteral}
 use Rattle.solver_scan.specs.declared.Verdict.the-variants.{Unstated}
 use Rattle.solver_scan.specs.SolverText.{literalOf}
-use Rattle.solver_scan.specs.Scanning.{scan, refusedAt, scanByte, scanEndAt}
+use Rattle.solver_scan.specs.Scanning.{scan, scanByte, scanEndAt}
 use Rattle.solver_literals.specs.Giving.{fits, given}
 use Rattle.solver_text.specs.declared.Reader.{Reader}
 use Rattle.solver_text.specs.declared.Reply.{Reply}
@@ -51,9 +51,25 @@ inLiteral Ended = false
 inLiteral BadForm = false
 inLiteral BadLiteral = false
 
--- a literal ends where the scan leaves it and the text is not refused
+-- a blank or a line feed brings the scan of a `v` line there
+unfoldable pub separated : Place → Bool
+separated Start = true
+separated Comment = false
+separated AfterS = false
+separated BeforeWord = false
+separated Word = false
+separated AfterWord = false
+separated AfterToken = false
+separated BeforeToken = true
+separated AfterMinus = false
+separated Digits = false
+separated Ended = false
+separated BadForm = false
+separated BadLiteral = false
+
+-- and ends a literal
 unfoldable pub endsLiteral : Place → Place → Bool
-endsLiteral p q = inLiteral p && (not (inLiteral q) && not (refusedAt q))
+endsLiteral p q = inLiteral p && separated q
 
 -- ---- a byte
 

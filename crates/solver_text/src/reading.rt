@@ -6,7 +6,7 @@ use solver_scan::Scan;
 use solver_scan::scan_byte;
 use solver_scan::scan_end;
 ghost use mathlib.Core.Path.{_≡_};
-ghost use Rattle.solver_text.specs.Machine.{run, step, end, at-rest, ending, endsLiteral, unfitting};
+ghost use Rattle.solver_text.specs.Machine.{run, step, end, at-rest, ending, inLiteral, endsLiteral, unfitting};
 
 // The bytes of a piece, one after another.
 pub fn feed(s: Scan, piece: &[u8], named: &mut [u8; Reader::SLOTS], last: u32, kept: u32) -> Scan
@@ -37,25 +37,30 @@ fn step(s: Scan, b: u8, named: &mut [u8; Reader::SLOTS], last: u32, kept: u32) -
 pub fn end(s: Scan, named: &mut [u8; Reader::SLOTS], last: u32, kept: u32) -> Scan
     ensures { λ r. ⌜ at-rest r (now (named .exit)) ≡ end last kept (at-rest s (now (named .entry))) ⌝ }
 {
-    let next = scan_end(s);
+    let ended = scan_end(s);
     let place = s.place;
-    match place {
-        Place::Digits => end_literal(s, next, named, last, kept),
-        _ => next,
+    if in_literal(place) {
+        return end_literal(s, ended, named, last, kept);
     }
+    ended
 }
 
-// Whether a literal ends where a scan goes from one place to another: it has left the digits, and the text is not refused.
+// Whether a literal ends where a scan goes from one place to another.
 fn ends_literal(before: Place, after: Place) -> bool
     ensures { λ r. ⌜ r ≡ endsLiteral before after ⌝ }
 {
-    match before {
-        Place::Digits => match after {
-            Place::Digits => false,
-            Place::BadForm => false,
-            Place::BadLiteral => false,
-            _ => true,
-        },
+    match after {
+        Place::Start => in_literal(before),
+        Place::BeforeToken => in_literal(before),
+        _ => false,
+    }
+}
+
+fn in_literal(place: Place) -> bool
+    ensures { λ r. ⌜ r ≡ inLiteral place ⌝ }
+{
+    match place {
+        Place::Digits => true,
         _ => false,
     }
 }
