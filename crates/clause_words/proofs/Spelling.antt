@@ -7,14 +7,14 @@ use native.Mathlib.Numerals.{add-one}
 use native.Mathlib.Omega.{arith}
 use lib.IntN.{ℤ, pos, negsuc, natAbs}
 use lib.Signed.{ltZ}
-use lib.ListN.{length, getD, take, set, length-append, length-set}
+use lib.ListN.{length, getD, take, set, length-set}
 use lib.Seq.{take-suc, take-all}
 use Rattle.decimal.specs.Wrote.{Wrote, WroteIfRoom}
 use Rattle.decimal.specs.Writing.{wrote-none, wrote-one, wrote-then, wrote-length, wrote-front}
 use Rattle.decimal.specs.Decimal.{decimal}
 use Rattle.decimal.specs.Digits.{decimal-at-most}
 use Rattle.clause_words.specs.Text.{literalText, spacedText, lineText}
-use Rattle.clause_words.specs.Pieces.{closing, line-spaced, spaced-append, wrote-two}
+use Rattle.clause_words.specs.Pieces.{line-spaced, spaced-append, wrote-two}
 use Rattle.clause_words.proofs.Signs.{text-negative, text-other}
 
 -- ---- one literal

@@ -94,7 +94,7 @@ pub record Demand1 : Type 0 where
   pub header : (a : Automaton) (n m : ℕ) (answer : Totals) → Headed a n m answer → Judged (to-count a n m) (header-said answer) (Unit {0})
   -- clause_step::step
   pub step : (a : Automaton) (n m x : ℕ) (d e : List ℤ) (r : Handed) → Stepped a n m x d e r
-      → Judged (to-hand-out 8 (length d) a n m x) (step-said (r .answer)) ((r .position ≡ x) × (e ≡ d))
+      → Judged (to-hand-out clauseRoom (length d) a n m x) (step-said (r .answer)) ((r .position ≡ x) × (e ≡ d))
   -- clause_line::line
   pub line : (a : Automaton) (n m x : ℕ) (d e : List ℕ) (r : Handed) → LineStepped a n m x d e r
       → Judged (to-hand-out lineRoom (length d) a n m x) (step-said (r .answer)) ((r .position ≡ x) × (e ≡ d))

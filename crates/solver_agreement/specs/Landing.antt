@@ -1,6 +1,6 @@
 -- What holds of a reader wherever a literal ends: it is turned down and the table stays, or the scan goes on and the table has at most one entry more.
-use mathlib.Core.Path.{_≡_, refl, ap, _∙_}
-use mathlib.Core.Bool.{true, false}
+use mathlib.Core.Path.{_≡_, refl}
+use mathlib.Core.Bool.{true}
 use mathlib.Core.List.{List}
 use Prim.Native.Nat.{ℕ}
 use lib.Dec.{ltb, eqb}

@@ -6,9 +6,8 @@ use mathlib.Core.List.{List}
 use Prim.Native.Nat.{ℕ, _+_, _≤_, _<_}
 use native.Mathlib.Omega.{arith}
 use borrow.Author.Tests.{eq-eqb, ne-eqb, lt-ltb, leb-true, leb-false}
-use lib.Dec.{ltb, leb, eqb}
-use lib.IntN.{ℤ, natAbs}
-use lib.ListN.{length, getD, set}
+use lib.Dec.{leb, eqb}
+use lib.ListN.{length, getD}
 use Rattle.meaning.specs.Tests.{all}
 use Rattle.meaning.specs.TestLaws.{all-at, and-left, and-right}
 use Rattle.refusals.specs.declared.Refusal.{Refusal}
@@ -19,7 +18,7 @@ use Rattle.solver_scan.specs.declared.Place.{Place}
 use Rattle.solver_scan.specs.declared.Place.the-variants.{Start, Comment, AfterS, BeforeWord, Word, AfterWord, AfterToken, BeforeToken, AfterMinus, Digits, Ended, BadForm, BadLiteral}
 use Rattle.solver_scan.specs.declared.Verdict.{Verdict}
 use Rattle.solver_scan.specs.declared.Verdict.the-variants.{Unstated, Satisfiable, Unsatisfiable, Unknown}
-use Rattle.solver_scan.specs.SolverText.{blank, digit, digit19, word, unstated, satisfiable, literalOf}
+use Rattle.solver_scan.specs.SolverText.{blank, digit, digit19, word, unstated, satisfiable}
 use Rattle.solver_scan.specs.Scanning.{scan, to, bad, done, atStart, inComment, afterS, beforeWord, spelt, nextLetter, wordDone, inWord, afterWord, afterToken, beforeToken, afterMinus, inDigits, byPlace, refusedAt, judge, judgeWord, scanEndAt}
 use Rattle.solver_text.specs.Machine.{at-rest, endAt, inLiteral, separated, endsLiteral, landed}
 use Rattle.solver_scan.specs.Cases.{by, either-way, clash}

@@ -1,6 +1,6 @@
 -- What a blank, a line feed, any other byte and the end of the text make of a scan, as the code takes them; by the place, this is what the definition says.
 use mathlib.Core.Path.{_≡_, refl, sym, ap, _∙_}
-use mathlib.Core.Bool.{Bool, true, false, cond}
+use mathlib.Core.Bool.{Bool, false, cond}
 use Prim.Native.Nat.{ℕ, _+_, _<_}
 use borrow.Author.Tests.{lt-ltb}
 use lib.Dec.{eqb}
@@ -8,9 +8,8 @@ use Rattle.solver_scan.specs.declared.Scan.{Scan}
 use Rattle.solver_scan.specs.declared.Place.{Place}
 use Rattle.solver_scan.specs.declared.Place.the-variants.{Start, Comment, AfterS, BeforeWord, Word, AfterWord, AfterToken, BeforeToken, AfterMinus, Digits, Ended, BadForm, BadLiteral}
 use Rattle.solver_scan.specs.declared.Verdict.{Verdict}
-use Rattle.solver_scan.specs.declared.Verdict.the-variants.{Unstated, Satisfiable, Unsatisfiable, Unknown}
 use Rattle.solver_scan.specs.SolverText.{blank, digit19, unstated, satisfiable}
-use Rattle.solver_scan.specs.Scanning.{scan, to, bad, done, startByte, atStart, inComment, afterS, firstLetter, beforeWord, spelt, nextLetter, wordDone, inWord, afterWord, afterToken, tokenByte, beforeToken, afterMinus, digitByte, inDigits, byPlace, refusedAt, judge, judgeWord, scanEndAt}
+use Rattle.solver_scan.specs.Scanning.{scan, to, bad, startByte, atStart, inComment, afterS, firstLetter, beforeWord, spelt, nextLetter, wordDone, inWord, afterWord, afterToken, tokenByte, beforeToken, afterMinus, digitByte, inDigits, byPlace, refusedAt, judge, judgeWord, scanEndAt}
 use Rattle.solver_scan.specs.Cases.{by}
 
 -- ---- a byte that only changes the place

@@ -16,7 +16,7 @@ use Rattle.solver_scan.specs.declared.Place.the-variants.{Start, Comment, After
 use Rattle.solver_scan.specs.SolverText.{literalOf}
 use Rattle.solver_scan.specs.Scanning.{scanByte, scanEnd}
 use Rattle.solver_scan.specs.Cases.{by}
-use Rattle.solver_literals.specs.Giving.{Given, fits, given}
+use Rattle.solver_literals.specs.Giving.{Given}
 use Rattle.solver_text.specs.declared.Reader.{Reader}
 use Rattle.solver_text.specs.declared.Answer.the-variants.{Accepted}
 use Rattle.solver_text.specs.Machine.{at-rest, unfitting, ending, inLiteral, separated, endsLiteral, landed, step, run, endAt, end, answerAt}

@@ -1,7 +1,7 @@
 -- `write_literals` meets its contract. The invariant: the text of the first i literals is written.
 use mathlib.Core.Path.{refl, subst}
 use mathlib.Core.List.{[], _∷_}
-use Prim.Native.Nat.{_-_, _≤_, _*_}
+use Prim.Native.Nat.{_-_, _≤_}
 use native.Mathlib.Omega.{arith}
 use lib.IntN.{pos}
 use lib.ListN.{getD, length}

@@ -1,11 +1,10 @@
 -- `place` meets its contract.
 use mathlib.Core.Path.{_≡_, ap, _∙_}
 use native.Mathlib.Omega.{arith}
-use borrow.Author.Tests.{eq-eqb, ne-eqb}
+use borrow.Author.Tests.{ne-eqb}
 use lib.IntN.{natAbs}
 use mir.Syntax.{w32}
 use mir.ValLaws.{toZ-ofZ}
-use Rattle.solver_literals.specs.Giving.{markOf}
 use borrow.Author.Needs.{needs}
 use Rattle.solver_literals.proofs.place.Statement.{statement}
 use Rattle.solver_literals.proofs.place.Tie as tie

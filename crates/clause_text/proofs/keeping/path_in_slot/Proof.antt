@@ -2,7 +2,6 @@
 use native.Mathlib.Omega.{arith}
 use Rattle.clause_text.proofs.Slots.{kept-found}
 use Rattle.clause_text.proofs.Literals.{slot-lt, path-kept}
-use borrow.Author.Needs.{needs}
 use Rattle.clause_text.proofs.keeping.path_in_slot.Statement.{statement}
 use Rattle.clause_text.proofs.keeping.path_in_slot.Tie as tie
 
