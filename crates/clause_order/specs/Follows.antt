@@ -6,8 +6,8 @@ use Rattle.clause_sizes.specs.Sizes.{Fitting}
 use Rattle.clause_indices.specs.declared.Indices.{Indices}
 use Rattle.clause_indices.specs.Indices.{extensions, extensionIndices}
 
--- q, p, t and u stay on all input. Where x has the indices of a position, y has those of the position after it, if that lies in the same block;
--- otherwise y's v is no state.
+-- q, p, t and u stay on all input. Where x has the indices of a position and y's v is a state, y has those of the position after it; so where that
+-- position lies in another block, y's v is no state. That a block is gone through to its end is not said: `lines` goes on from any position.
 pub record Follows (z : Sizes) (x y : Indices) : Type 0 where
   pub same-q : y .q ≡ x .q
   pub same-p : y .p ≡ x .p
