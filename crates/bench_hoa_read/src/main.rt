@@ -3,9 +3,12 @@
 use console_input::number;
 use console_numerals::Number;
 use console_places::part::first;
+use console_print::print;
 use console_read::read_input;
+use console_report::lines::LINE;
 use hoa_read::Answer;
-use libc::STDOUT_FILENO;
+use pieces::byte;
+use pieces::word;
 use std::num::wrapping_add_u64;
 
 // Bytes of a slot: a text, and line feeds behind it.
@@ -77,9 +80,11 @@ fn read_slot(text: &[u8], before: Tally) -> Tally {
 }
 
 fn tell(tally: Tally) {
-    io::write_all(STDOUT_FILENO, b"accepted ");
-    io::print_decimal(STDOUT_FILENO, tally.accepted);
-    io::write_all(STDOUT_FILENO, b" states ");
-    io::print_decimal(STDOUT_FILENO, tally.states);
-    io::write_all(STDOUT_FILENO, b"\n");
+    let mut line = [0u8; LINE];
+    let mut at = word(b"accepted ", &mut line, 0);
+    at = decimal::write(tally.accepted, &mut line, at);
+    at = word(b" states ", &mut line, at);
+    at = decimal::write(tally.states, &mut line, at);
+    at = byte(b'\n', &mut line, at);
+    print(&line, at);
 }

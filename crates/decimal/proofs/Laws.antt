@@ -1,20 +1,45 @@
 -- What the functions' loops and branches know, over plain numbers and lists.
-use mathlib.Core.Path.{_≡_, refl, sym, ap, ap₂, _∙_, subst}
+use mathlib.Core.Path.{_≡_, refl, sym, ap, _∙_, subst}
 use mathlib.Core.Logic.{_≢_}
-use mathlib.Core.List.{List, [], _∷_, _++_, append-assoc, append-nil}
-use Prim.Native.Nat.{ℕ, zero, suc, _+_, _-_, _*_, _/_, _%_, _^_, _≤_, _<_}
-use native.Mathlib.Nat.{mod-lt, mul-comm, div-lt-iff-lt-mul}
+use mathlib.Core.List.{List}
+use Prim.Native.Nat.{ℕ, zero, suc, _+_, _-_, _*_, _^_, _≤_, _<_}
+use native.Mathlib.Nat.{zero-mul, one-mul, mul-one, add-mul, mul-add}
 use native.Mathlib.Omega.{arith}
 use borrow.Author.Tests.{lt-ltb, le-ltb}
 use lib.Arith.{lt-of-le-ne}
-use lib.ListN.{length, set}
+use lib.ListN.{length}
 use Rattle.decimal.specs.Decimal.{digits, places, decimal}
-use Rattle.decimal.specs.Digits.{ten-pos, digits-first, decimal-length}
+use Rattle.decimal.specs.Digits.{decimal-length}
 use Rattle.decimal.specs.Wrote.{Wrote, WroteIfRoom}
-use Rattle.decimal.specs.Writing.{wrote-none, wrote-one, wrote-then, wrote-length, wrote-roomy, wrote-short}
+use Rattle.decimal.specs.Writing.{wrote-roomy, wrote-short}
 
-pub below-ten : (n p : ℕ) → 0 < p → n < p * 10 → n / p < 10
-below-ten n p h q = div-lt-iff-lt-mul {k = p} {x = n} {y = 10} h .1 (rw mul-comm at q)
+-- ---- one digit, by taking a power away
+
+-- the power was taken away d times, and does not go more than `left` times into the rest
+pub record Taken (n power left d rest : ℕ) : Type 0 where
+  pub whole : n ≡ d * power + rest
+  pub less : rest < power * (left + 1)
+  pub count : d + left ≤ 9
+
+pub taken-none : (n power : ℕ) → n < power * 10 → Taken n power 9 0 n
+taken-none n power h = record { whole = omega (arith, zero-mul power); less = h; count = omega arith }
+
+-- once more, where it goes
+pub taken-once : {n power left d rest : ℕ} → Taken n power left d rest → 0 < left → power ≤ rest → Taken n power (left - 1) (d + 1) (rest - power)
+taken-once {n} {power} {left} {d} {rest} t h g =
+    let e : left - 1 + 1 ≡ left = omega arith in
+    record {
+      whole = omega (arith, t .whole, add-mul d 1 power, one-mul power);
+      less = subst (λ (k : ℕ). rest - power < power * k) (sym e) (omega (arith, t .less, mul-add power left 1, mul-one power));
+      count = omega (arith, t .count);
+    }
+
+pub taken-enough : {n power left d rest : ℕ} → Taken n power left d rest → 0 < left → rest < power → Taken n power (left - 1) d rest
+taken-enough {power} {left} t h g =
+    record { whole = t .whole; less = omega (arith, mul-add power (left - 1) 1, mul-one power); count = omega (arith, t .count) }
+
+pub taken-all : {n power left d rest : ℕ} → Taken n power left d rest → left ≡ 0 → (n ≡ d * power + rest) × (rest < power)
+taken-all {power} {rest} t e = (t .whole, subst (λ (k : ℕ). rest < k) (ap (λ (k : ℕ). power * (k + 1)) e ∙ mul-one power) (t .less))
 
 -- ---- the last arm of a match on 0, 1, ..
 
@@ -38,37 +63,6 @@ places-here (suc k) c n h = rw (lt-ltb n (10 ^ c) h)
 
 pub places-past : (k c n : ℕ) → 0 < k → 10 ^ c ≤ n → places k c n ≡ places (k - 1) (c + 1) n
 places-past (suc k) c n g h = let e : k ≡ suc k - 1 = omega arith in rw (le-ltb n (10 ^ c) h) (ap (λ j. places j (c + 1) n) e)
-
--- ---- the digits, written so far
-
--- w is written, and with the last `left` digits of `rest` it is the whole text
-pub record Begun (text d₀ : List ℕ) (at : ℕ) (d : List ℕ) (left rest to : ℕ) : Type 0 where
-  pub small : rest < 10 ^ left
-  pub w : List ℕ
-  pub spells : w ++ digits left rest ≡ text
-  pub wrote : Wrote d₀ at w d to
-  pub fits : to + left ≤ length d₀
-
-pub begun-start : (n count : ℕ) (d : List ℕ) (at : ℕ) → n < 10 ^ count → at + count ≤ length d → Begun (digits count n) d at d count n at
-begun-start n count d at h g = record { small = h; w = []; spells = refl; wrote = wrote-none d at (omega arith); fits = g }
-
-pub begun-more : {text d₀ : List ℕ} {at : ℕ} {d : List ℕ} {left rest to : ℕ} (q r v : ℕ) → Begun text d₀ at d left rest to → 0 < left
-    → q ≡ rest / 10 ^ (left - 1) → r ≡ rest % 10 ^ (left - 1) → v ≡ 48 + q → Begun text d₀ at (set d to v) (left - 1) r (to + 1)
-begun-more {d} {left} {rest} {to} q r v b h is-q is-r is-v =
-    record {
-      small = rw is-r (mod-lt rest (ten-pos (left - 1)));
-      w = b .w ++ (v ∷ []);
-      spells = append-assoc (b .w) (v ∷ []) (digits (left - 1) r)
-          ∙ ap₂ (λ (x y : ℕ). b .w ++ (x ∷ digits (left - 1) y)) (is-v ∙ ap (λ (x : ℕ). 48 + x) is-q) is-r
-          ∙ ap (λ l. b .w ++ l) (sym (digits-first left rest h))
-          ∙ b .spells;
-      wrote = wrote-then (b .wrote) (wrote-one d to v (omega (arith, wrote-length (b .wrote), b .fits)));
-      fits = omega (arith, b .fits);
-    }
-
-pub begun-all : {text d₀ : List ℕ} {at : ℕ} {d : List ℕ} {left rest to : ℕ} → Begun text d₀ at d left rest to → left ≡ 0 → Wrote d₀ at text d to
-begun-all {d₀} {at} {d} {rest} {to} b z =
-    subst (λ t. Wrote d₀ at t d to) (sym (append-nil (b .w)) ∙ ap (λ k. b .w ++ digits k rest) (sym z) ∙ b .spells) (b .wrote)
 
 -- ---- the whole number
 

@@ -1,9 +1,9 @@
--- Laws of decimal text: how long it is, and its digits one by one.
+-- Laws of decimal text: how long it is.
 use mathlib.Core.Path.{_≡_, refl, ap, _∙_, subst}
 use mathlib.Core.Bool.{Bool, true, false, cond}
-use mathlib.Core.List.{_∷_}
-use Prim.Native.Nat.{ℕ, zero, suc, _+_, _-_, _*_, _/_, _%_, _^_, _≤_, _<_}
+use Prim.Native.Nat.{ℕ, zero, suc, _+_, _*_, _%_, _^_, _≤_, _<_}
 use native.Mathlib.Nat.{pow-suc, pow-le-pow-right, add-zero}
+use native.Mathlib.Numerals.{add-one}
 use native.Mathlib.Decide.{decLt}
 use native.Mathlib.Omega.{arith}
 use borrow.Author.Tests.{ltb-true, ltb-false}
@@ -11,11 +11,8 @@ use lib.Dec.{ltb}
 use lib.ListN.{length}
 use Rattle.decimal.specs.Decimal.{digits, places, decimal}
 
-pub ten-pos : (k : ℕ) → 0 < 10 ^ k
-ten-pos k = pow-le-pow-right {n = 10} (omega arith) {i = 0} {j = k} (omega arith)
-
-pub ten-up : (k : ℕ) → 0 < k → 10 ^ k ≡ 10 ^ (k - 1) * 10
-ten-up (suc k) h = pow-suc 10 k ∙ ap (λ j. 10 ^ j * 10) (omega arith)
+pub ten-up : (k : ℕ) → 10 ^ (k + 1) ≡ 10 ^ k * 10
+ten-up k = ap (λ (j : ℕ). 10 ^ j) (add-one k) ∙ pow-suc 10 k
 
 -- a larger power of ten has a larger exponent
 pub ten-less : (i j : ℕ) → 10 ^ i < 10 ^ j → i < j
@@ -31,15 +28,16 @@ pub digits-length : (k n : ℕ) → length (digits k n) ≡ k
 digits-length zero n = refl
 digits-length (suc k) n = ap suc (digits-length k (n % 10 ^ k))
 
-pub digits-first : (k n : ℕ) → 0 < k → digits k n ≡ (48 + n / 10 ^ (k - 1)) ∷ digits (k - 1) (n % 10 ^ (k - 1))
-digits-first (suc k) n h = let e : k ≡ suc k - 1 = omega arith in ap (λ j. (48 + n / 10 ^ j) ∷ digits j (n % 10 ^ j)) e
-
 -- ---- how many there are
 
 -- a fact of the one or the other, by the test
 either : (P : ℕ → Type 0) (b : Bool) {x y : ℕ} → (b ≡ true → P x) → (b ≡ false → P y) → P (cond b x y)
 either P true h g = h refl
 either P false h g = g refl
+
+pub places-from : (k c n : ℕ) → c ≤ places k c n
+places-from zero c n = omega arith
+places-from (suc k) c n = either (λ r. c ≤ r) (ltb n (10 ^ c)) (λ e. omega arith) (λ e. omega (arith, places-from k (c + 1) n))
 
 pub places-to : (k c n : ℕ) → places k c n ≤ c + k
 places-to zero c n = omega arith

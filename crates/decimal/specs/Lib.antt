@@ -2,3 +2,4 @@ pub mod Wrote
 pub mod Writing
 pub mod Decimal
 pub mod Digits
+pub mod Spelling

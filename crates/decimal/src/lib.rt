@@ -1,8 +1,8 @@
 // Decimal numbers, written into a lent buffer.
 ghost use mathlib.Core.Path.{_≡_};
-ghost use Prim.Native.Nat.{_+_, _*_, _/_, _%_, _^_, _≤_, _<_};
-ghost use lib.ListN.{length};
+ghost use Prim.Native.Nat.{_+_, _*_, _^_, _≤_, _<_, min};
 ghost use Rattle.decimal.specs.Decimal.{decimal, digits, places};
+ghost use Rattle.decimal.specs.Spelling.{Fits, Spells};
 ghost use Rattle.decimal.specs.Wrote.{Wrote, WroteIfRoom};
 
 // Writes n at the place `at`, and returns the place after it. Where there is no room nothing is written, and `at` comes back.
@@ -63,22 +63,66 @@ fn power_of_ten(k: usize) -> u64
     }
 }
 
-// The last `count` digits of n, which has no more.
+// Where the writing of a number has come to: what is left of it, and the place of the next digit.
+struct Rest {
+    number: u64,
+    at: usize,
+}
+
+// The last `count` digits of n, which has no more; no number has a digit at place 20. No loop runs over them: inside one the compiler makes jumps of the choices in
+// `leading_digit`, and a jump that hangs on a digit is often guessed wrong.
 fn write_digits(n: u64, count: usize, dst: &mut [u8], at: usize) -> usize
-    requires { ⌜ (count ≤ 20) × (n < 10 ^ count) × (at + count ≤ length (now dst)) ⌝ }
+    requires { ⌜ (0 < count) × (count ≤ 20) × Fits (now dst) at count n ⌝ }
     ensures { λ r. ⌜ Wrote (now (dst .entry)) at (digits count n) (now (dst .exit)) r ⌝ }
 {
-    let mut left = count;
-    let mut rest = n;
-    let mut to = at;
-    while left > 0 {
-        left -= 1;
-        let leading = leading_digit(rest, power_of_ten(left));
-        dst[to] = b'0' + leading.digit;
-        to += 1;
-        rest = leading.rest;
+    let mut rest = Rest { number: n, at };
+    rest = four_digits(rest, 17, count, dst);
+    rest = four_digits(rest, 13, count, dst);
+    rest = four_digits(rest, 9, count, dst);
+    rest = four_digits(rest, 5, count, dst);
+    rest = four_digits(rest, 1, count, dst);
+    last_digit(rest, dst)
+}
+
+// The digits at four places, from the highest on, as far as they are among the last `count`.
+fn four_digits(before: Rest, place: usize, count: usize, dst: &mut [u8]) -> Rest
+    requires { ⌜ (count ≤ 20) × Fits (now dst) (before .at) (min count (place + 4)) (before .number) ⌝ }
+    ensures { λ r. ⌜ Spells (now (dst .entry)) (before .at) (min count (place + 4)) (before .number) (now (dst .exit)) (r .at) (min count place) (r .number) ⌝ }
+{
+    if count <= place {
+        return before;
     }
-    to
+    let mut rest = one_digit(before, place + 3, count, dst);
+    rest = one_digit(rest, place + 2, count, dst);
+    rest = one_digit(rest, place + 1, count, dst);
+    one_digit(rest, place, count, dst)
+}
+
+// The digit at a place, if it is among the last `count`.
+fn one_digit(before: Rest, place: usize, count: usize, dst: &mut [u8]) -> Rest
+    requires { ⌜ (count ≤ 20) × Fits (now dst) (before .at) (min count (place + 1)) (before .number) ⌝ }
+    ensures { λ r. ⌜ Spells (now (dst .entry)) (before .at) (min count (place + 1)) (before .number) (now (dst .exit)) (r .at) (min count place) (r .number) ⌝ }
+{
+    if count <= place {
+        return before;
+    }
+    let leading = leading_digit(before.number, power_of_ten(place));
+    let at = before.at;
+    dst[at] = b'0' + leading.digit;
+    Rest {
+        number: leading.rest,
+        at: at + 1,
+    }
+}
+
+// The digit at place 0: what is left when the powers above have been taken away.
+fn last_digit(rest: Rest, dst: &mut [u8]) -> usize
+    requires { ⌜ Fits (now dst) (rest .at) 1 (rest .number) ⌝ }
+    ensures { λ r. ⌜ Wrote (now (dst .entry)) (rest .at) (digits 1 (rest .number)) (now (dst .exit)) r ⌝ }
+{
+    let at = rest.at;
+    dst[at] = b'0' + rest.number as u8;
+    at + 1
 }
 
 struct Leading {
@@ -86,14 +130,22 @@ struct Leading {
     rest: u64,
 }
 
-// The digit of n at a power of ten, where it has none above, and what is left of n. Nothing else here divides.
+// The digit of n at a power of ten, where it has none above, and what is left of n: the power is taken away as often as it goes. Nine turns whatever the digit, so
+// that they can be written out without a jump.
 fn leading_digit(n: u64, power: u64) -> Leading
-    requires { ⌜ (0 < power) × (n < power * 10) ⌝ }
-    ensures is { λ r. ⌜ (r .digit ≡ n / power) × (r .rest ≡ n % power) ⌝ }
+    requires { ⌜ n < power * 10 ⌝ }
+    ensures is { λ r. ⌜ (n ≡ r .digit * power + r .rest) × (r .rest < power) ⌝ }
     ensures small { λ r. ⌜ r .digit < 10 ⌝ }
 {
-    Leading {
-        digit: (n / power) as u8,
-        rest: n % power,
+    let mut digit: u8 = 0;
+    let mut rest = n;
+    let mut left: usize = 9;
+    while left > 0 {
+        if power <= rest {
+            rest -= power;
+            digit += 1;
+        }
+        left -= 1;
     }
+    Leading { digit, rest }
 }

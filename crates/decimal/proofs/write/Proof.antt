@@ -1,6 +1,6 @@
 -- `write` meets its contract.
 use native.Mathlib.Omega.{arith}
-use Rattle.decimal.specs.Digits.{places-to, places-enough}
+use Rattle.decimal.specs.Digits.{places-from, places-to, places-enough}
 use Rattle.decimal.proofs.Laws.{wrote-nothing, wrote-decimal}
 use borrow.Author.Needs.{needs}
 use Rattle.decimal.proofs.write.Statement.{statement}
@@ -21,9 +21,9 @@ returns-2 c =
 
 write-digits-requires : tie.Need-write-digits-requires
 write-digits-requires c κs =
-    let s = c .before .before .before .before .before in
+    let n = c .before .before .before .before .before .args .n in
     let e = c .before .before .before .digit-count .ensures in
-    (omega (arith, e, places-to 19 1 (s .args .n)), rw e (places-enough 19 1 (s .args .n) (omega arith)), omega arith)
+    (omega (arith, e, places-from 19 1 n), omega (arith, e, places-to 19 1 n), record { small = rw e (places-enough 19 1 n (omega arith)); room = omega arith })
 
 same-length : tie.Need-same-length
 same-length c = search needs

@@ -1,73 +1,64 @@
--- `write_digits` meets its contract: what is written and the digits that are left are the whole text at each turn.
-use mathlib.Core.Path.{refl}
-use Prim.Native.Nat.{_≤_, _-_}
+-- `write_digits` meets its contract: each part goes on where the one before has ended.
+use mathlib.Core.Path.{_≡_, refl, sym}
+use Prim.Native.Nat.{ℕ, _<_, min}
 use native.Mathlib.Omega.{arith}
-use Rattle.decimal.specs.Decimal.{digits}
-use Rattle.decimal.specs.Digits.{ten-pos, ten-up}
-use Rattle.decimal.specs.Writing.{wrote-length}
-use Rattle.decimal.proofs.Laws.{Begun, begun-start, begun-more, begun-all}
+use borrow.Author.Needs.{needs}
+use Rattle.decimal.specs.Spelling.{fits-as, spells-none, spells-then, spells-all}
 use Rattle.decimal.proofs.write_digits.Statement.{statement}
 use Rattle.decimal.proofs.write_digits.Tie as tie
 
-abbrev Inv-loop : tie.InvT-loop
-Inv-loop n count dst₀ at left₀ rest₀ to₀ dst left rest to = (left ≤ 20) × Begun (digits count n) dst₀ at dst left rest to
+-- one digit is left at the end
+one : (count : ℕ) → 0 < count → 1 ≡ min count 1
+one count h = omega arith
 
-abbrev μ-loop : tie.MeasureT-loop
-μ-loop n count dst₀ at left₀ rest₀ to₀ dst left rest to = left
+four-digits-requires : tie.Need-four-digits-requires
+four-digits-requires c κs = (omega arith, fits-as (c .before .before .pre .2) _ (omega arith))
 
-loop-holds : tie.Need-loop-holds Inv-loop μ-loop
-loop-holds c = let s = c .before in let a = s .args in (s .pre .0, begun-start (a .n) (a .count) (a .dst .now) (a .at) (s .pre .1) (s .pre .2))
+four-digits-requires-2 : tie.Need-four-digits-requires-2
+four-digits-requires-2 c κs = search needs
 
-sub-left : tie.Need-sub-left Inv-loop μ-loop
-sub-left c = omega arith
+four-digits-requires-3 : tie.Need-four-digits-requires-3
+four-digits-requires-3 c κs = search needs
 
-power-of-ten-requires : tie.Need-power-of-ten-requires Inv-loop μ-loop
-power-of-ten-requires c κs = omega arith
+four-digits-requires-4 : tie.Need-four-digits-requires-4
+four-digits-requires-4 c κs = search needs
 
-leading-digit-requires : tie.Need-leading-digit-requires Inv-loop μ-loop
-leading-digit-requires c κs =
-    let l = c .before .before .loop in
-    rw (c .power-of-ten .ensures) (ten-pos (l .left - 1), omega (arith, ten-up (l .left) (omega arith), l .inv .1 .small))
+four-digits-requires-5 : tie.Need-four-digits-requires-5
+four-digits-requires-5 c κs = search needs
 
-add-dst : tie.Need-add-dst Inv-loop μ-loop
-add-dst c = omega arith
+last-digit-requires : tie.Need-last-digit-requires
+last-digit-requires c κs =
+    let c5 = c .before .before .before in
+    let c3 = c5 .before .before .before .before .before .before .before .before in
+    let c1 = c3 .before .before .before .before .before .before .before .before in
+    let s = c1 .before .before .before in
+    fits-as (c5 .four-digits5 .ensures .fits) 1 (sym (one (s .args .count) (s .pre .0)))
 
-slice-write-dst : tie.Need-slice-write-dst Inv-loop μ-loop
-slice-write-dst c = let l = c .before .before .before .before .loop in omega (arith, wrote-length (l .inv .1 .wrote))
+same-length : tie.Need-same-length
+same-length c = search needs
 
-add-to : tie.Need-add-to Inv-loop μ-loop
-add-to c = omega arith
-
-loop-less : tie.Need-loop-less Inv-loop μ-loop
-loop-less c = omega arith
-
-loop-again : tie.Need-loop-again Inv-loop μ-loop
-loop-again c =
-    let l = c .before .before .before .before .loop in
-    let e = c .before .before .power-of-ten .ensures in
-    let g = c .before .leading-digit .ensures .0 in
-    (omega arith, begun-more _ _ _ (l .inv .1) (omega arith) (rw e at (g .0)) (rw e at (g .1)) refl)
-
-same-length : tie.Need-same-length Inv-loop μ-loop
-same-length c = wrote-length (c .before .loop .inv .1 .wrote)
-
-returns : tie.Need-returns Inv-loop μ-loop
-returns c = begun-all (c .before .loop .inv .1) (omega arith)
+returns : tie.Need-returns
+returns c =
+    let c6 = c .before .before in
+    let c5 = c6 .before .before .before .before in
+    let c4 = c5 .before .before .before .before in
+    let c3 = c4 .before .before .before .before in
+    let c2 = c3 .before .before .before .before in
+    let c1 = c2 .before .before .before .before in
+    let s = c1 .before .before .before in
+    let parts = spells-then (c1 .four-digits .ensures) refl (spells-then (c2 .four-digits2 .ensures) refl
+    (spells-then (c3 .four-digits3 .ensures) refl (spells-then (c4 .four-digits4 .ensures) refl (c5 .four-digits5 .ensures)))) in
+    spells-all (spells-then (spells-none (s .pre .2) _ refl) (omega arith) parts) (one (s .args .count) (s .pre .0)) (c6 .last-digit .ensures)
 
 pub write-digits-spec : {M : Type 1} → statement M
 write-digits-spec =
     tie.close
     (tie.spec
-    Inv-loop
-    μ-loop
-    loop-holds
-    sub-left
-    power-of-ten-requires
-    leading-digit-requires
-    add-dst
-    slice-write-dst
-    add-to
-    loop-less
-    loop-again
+    four-digits-requires
+    four-digits-requires-2
+    four-digits-requires-3
+    four-digits-requires-4
+    four-digits-requires-5
+    last-digit-requires
     same-length
     returns)
