@@ -1,4 +1,4 @@
-// Decimal numbers, written into a lent buffer.
+// Decimal numbers, written into a lent buffer. Digits are made by subtracting powers of ten: nothing here divides.
 ghost use mathlib.Core.Path.{_≡_};
 ghost use Prim.Native.Nat.{_+_, _*_, _^_, _≤_, _<_, min};
 ghost use Rattle.decimal.specs.Decimal.{decimal, digits, places};
