@@ -1,10 +1,9 @@
-//! Whether what was printed for an input is right. Document 01 leaves 12's word to the program, so
-//! words are checked; everything else is compared byte for byte.
+//! Whether what was printed for an input is right, byte for byte.
 
-use crate::automaton::*;
+use crate::automaton::{judge_sizes, Refusal};
 use crate::clauses::File;
-use crate::compare::*;
-use crate::decode::{decode, Decoded};
+use crate::compare::compare;
+use crate::decode::decode;
 use crate::hoa;
 use crate::printed::*;
 use crate::search::Search;
@@ -33,60 +32,21 @@ pub fn check_clauses(reference: &[u8], n: u64, m: u64, printed: &[u8]) -> Checke
 }
 
 pub fn check_compare(first: &[u8], second: &[u8], printed: &[u8]) -> Checked {
-    let due = hoa::read(first).and_then(|first| Ok((first, hoa::read(second)?)));
-    unless_refused(due, printed, |(first, second)| check_comparison(&first, &second, printed))
+    let due = hoa::read(first).and_then(|first| compare(&first, &hoa::read(second)?));
+    unless_refused(due, printed, |comparison| equal(printed, comparison_text(&comparison).as_bytes()))
 }
 
 pub fn check_decode(reference: &[u8], n: u64, m: u64, text: &[u8], printed: &[u8]) -> Checked {
-    let due = hoa::read(reference).and_then(|reference| Ok((decode(&reference, n, m, text)?, reference)));
-    unless_refused(due, printed, |(decoded, reference)| match decoded {
-        Decoded::Differs(table, _) => check_differs(&table, &reference, printed),
-        decoded => equal(printed, &decoded_text(&decoded)),
-    })
+    let due = hoa::read(reference).and_then(|reference| decode(&reference, n, m, text));
+    unless_refused(due, printed, |decoded| equal(printed, &decoded_text(&decoded)))
 }
 
 pub fn check_search(reference: &[u8], answers: &[Vec<u8>], printed: &[u8]) -> Checked {
     unless_refused(hoa::read(reference), printed, |reference| {
         let mut search = Search::new(&reference);
         let told = answers.iter().try_for_each(|answer| search.answer(answer));
-        if let Err(Refusal { number: 12, .. }) = told {
-            let (pairs, sets) = (search.n * reference.states(), search.m.max(reference.sets));
-            return check_lengths(pairs, sets, printed);
-        }
         unless_refused(told, printed, |()| equal(printed, &search_text(&search)))
     })
-}
-
-/// `same`, or `differ P L` and a word.
-fn check_comparison(first: &Automaton, second: &Automaton, printed: &[u8]) -> Checked {
-    let right = match compare(first, second) {
-        Ok(right) => right,
-        Err(refusal) => return equal(printed, &refusal_text(&refusal)),
-    };
-    if right == Comparison::Same || printed == b"same\n" {
-        return equal(printed, comparison_text(&right).as_bytes());
-    }
-    let word = printed_word(printed)?;
-    equal(printed, comparison_text(&Comparison::Differ(word.clone())).as_bytes())?;
-    fault(first, second, &word).map_or(Ok(()), Err)
-}
-
-/// 12 of the decoder with its word. The decoded table is the first.
-fn check_differs(table: &Automaton, reference: &Automaton, printed: &[u8]) -> Checked {
-    let word = printed_word(printed)?;
-    equal(printed, differs_text(&word).as_bytes())?;
-    fault(table, reference, &word).map_or(Ok(()), Err)
-}
-
-/// 12 of the search, which prints the two lengths only; N is `pairs`, the larger set count `sets`.
-fn check_lengths(pairs: usize, sets: usize, printed: &[u8]) -> Checked {
-    let text = String::from_utf8_lossy(printed);
-    let lengths: Vec<usize> = text.split_whitespace().skip(2).filter_map(|number| number.parse().ok()).collect();
-    let [prefix, cycle] = lengths[..] else {
-        return Err(format!("12 and two lengths are due: {text:?}"));
-    };
-    equal(printed, format!("refused 12 {prefix} {cycle}\n").as_bytes())?;
-    fault_of_lengths(pairs, sets, prefix, cycle).map_or(Ok(()), Err)
 }
 
 /// Whether the two texts are the same, byte for byte.
@@ -98,68 +58,53 @@ fn equal(printed: &[u8], due: &[u8]) -> Checked {
     Err(format!("printed {:?}, due {:?}", shown(printed), shown(due)))
 }
 
-/// The word of the lines `prefix ..` and `loop ..`, which are the second and the third.
-fn printed_word(printed: &[u8]) -> Result<Word, String> {
-    let text = std::str::from_utf8(printed).map_err(|_| "no text".to_string())?;
-    let lines: Vec<&str> = text.lines().collect();
-    let [_, prefix, cycle] = lines[..] else {
-        return Err(format!("three lines are due: {text:?}"));
-    };
-    Ok(Word { prefix: letters(prefix, "prefix")?, cycle: letters(cycle, "loop")? })
-}
-
-fn letters(line: &str, name: &str) -> Result<Vec<u8>, String> {
-    let rest = line.strip_prefix(name).ok_or(format!("`{name}` is due: {line:?}"))?;
-    rest.split_whitespace().map(|word| word.parse().map_err(|_| format!("{word} is no letter"))).collect()
-}
-
 #[cfg(test)]
 mod tests {
     use super::*;
+    use crate::automaton::{Automaton, Transition};
 
-    fn one_state(sets: usize, marks: [u8; 2]) -> Automaton {
-        let row = marks.map(|marks| Transition { to: 0, marks }).to_vec();
-        Automaton { start: 0, sets, names: vec![b"a".to_vec()], table: vec![row] }
-    }
-
-    fn checked(printed: &str) -> Checked {
-        check_comparison(&one_state(1, [0, 1]), &one_state(1, [1, 1]), printed.as_bytes())
+    fn one_state(sets: usize, names: &[&str], marks: &[u8]) -> Vec<u8> {
+        let row = marks.iter().map(|&marks| Transition { to: 0, marks }).collect();
+        let names = names.iter().map(|name| name.as_bytes().to_vec()).collect();
+        hoa::write(&Automaton { start: 0, sets, names, table: vec![row] })
     }
 
     #[test]
-    fn words_and_their_faults() {
+    fn one_word_is_right() {
+        let (first, second) = (one_state(1, &["a"], &[0, 1]), one_state(1, &["a"], &[1, 1]));
+        let checked = |printed: &str| check_compare(&first, &second, printed.as_bytes());
         assert_eq!(checked("differ 0 1\nprefix\nloop 0\n"), Ok(()));
-        assert_eq!(checked("differ 0 2\nprefix\nloop 0 0\n"), Ok(()));
-        assert!(checked("same\n").is_err());
-        assert!(checked("differ 0 1\nprefix\nloop 1\n").is_err());
-        assert!(checked("differ 0 1\nprefix\nloop 2\n").is_err());
-        assert!(checked("differ 0 2\nprefix\nloop 0\n").is_err());
+        // Words that show the difference too, and words that do not.
+        assert!(checked("differ 0 2\nprefix\nloop 0 0\n").is_err());
         assert!(checked("differ 1 1\nprefix 0\nloop 0\n").is_err());
-        assert!(checked("differ 0 3\nprefix\nloop 0 0 0\n").is_err());
-        assert!(checked("differ 0 0\nprefix\nloop\n").is_err());
-        assert!(checked("differ 0 1\nprefix \nloop 0\n").is_err());
+        assert!(checked("differ 0 1\nprefix\nloop 1\n").is_err());
         assert!(checked("differ 0 1\nprefix\nloop 0").is_err());
         assert!(checked("refused 12 0 1\nprefix\nloop 0\n").is_err());
+        assert!(checked("same\n").is_err());
     }
 
     #[test]
     fn same_and_refused() {
-        let given = one_state(1, [0, 1]);
-        assert_eq!(check_comparison(&given, &given, b"same\n"), Ok(()));
-        assert!(check_comparison(&given, &given, b"same").is_err());
-        assert!(check_comparison(&given, &given, b"differ 0 1\nprefix\nloop 0\n").is_err());
-        let other = Automaton { names: vec![], table: vec![vec![Transition { to: 0, marks: 0 }]], ..given.clone() };
-        assert_eq!(check_comparison(&given, &other, b"refused 14 1 0\n"), Ok(()));
-        assert!(check_comparison(&given, &other, b"refused 14 0 1\n").is_err());
+        let (given, other) = (one_state(1, &["a"], &[0, 1]), one_state(1, &[], &[0]));
+        assert_eq!(check_compare(&given, &given, b"same\n"), Ok(()));
+        assert!(check_compare(&given, &given, b"same").is_err());
+        assert!(check_compare(&given, &given, b"differ 0 1\nprefix\nloop 0\n").is_err());
+        assert_eq!(check_compare(&given, &other, b"refused 14 1 0\n"), Ok(()));
+        assert!(check_compare(&given, &other, b"refused 14 0 1\n").is_err());
     }
 
     #[test]
-    fn refusals_of_decoder_and_search() {
-        let (table, reference) = (one_state(1, [0, 1]), one_state(0, [0, 0]));
-        assert_eq!(check_differs(&table, &reference, b"refused 12 0 1\nprefix\nloop 0\n"), Ok(()));
-        assert!(check_differs(&table, &reference, b"differ 0 1\nprefix\nloop 0\n").is_err());
-        assert_eq!(check_lengths(1, 1, b"refused 12 0 2\n"), Ok(()));
-        assert!(check_lengths(1, 1, b"refused 12 0 3\n").is_err());
-        assert!(check_lengths(1, 1, b"refused 11 0 0\n").is_err());
+    fn decoder_and_search_give_the_word() {
+        // One state and no letter but 0; the answer states a table that never meets its set.
+        let (reference, answer) = (one_state(1, &[], &[1]), b"s SATISFIABLE\nv 1 0\n");
+        let decoded = |printed: &str| check_decode(&reference, 1, 1, answer, printed.as_bytes());
+        assert_eq!(decoded("refused 12 0 1\nprefix\nloop 0\n"), Ok(()));
+        assert!(decoded("refused 12 0 2\nprefix\nloop 0 0\n").is_err());
+        assert!(decoded("refused 12 0 1\n").is_err());
+        let two_states = b"HOA: v1\nStates: 2\nStart: 0\nAP: 0\nAcceptance: 1 Inf(0)\n--BODY--\nState: 0\n[t] 1 {0}\nState: 1\n[t] 0 {0}\n--END--\n";
+        let told = |printed: &str| check_search(two_states, &[answer.to_vec()], printed.as_bytes());
+        assert_eq!(told("refused 12 0 2\n"), Ok(()));
+        assert!(told("refused 12 0 1\n").is_err());
+        assert!(told("ask 1 1\n").is_err());
     }
 }

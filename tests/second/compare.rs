@@ -7,30 +7,8 @@
 //! transitions again and again meets every set of the one and never again j.
 
 use crate::automaton::*;
-use std::collections::VecDeque;
-
-/// A lasso word: the prefix, then the loop for ever.
-#[derive(Clone, PartialEq, Eq, Debug)]
-pub struct Word {
-    pub prefix: Vec<u8>,
-    pub cycle: Vec<u8>,
-}
-
-impl Word {
-    /// 12, prefix length, loop length.
-    pub fn refusal(&self) -> Refusal {
-        Refusal::new(12, self.prefix.len() as u64, self.cycle.len() as u64)
-    }
-
-    /// `prefix` and `loop`, each followed by its letters, on a line each.
-    pub fn lines(&self) -> String {
-        format!("prefix{}\nloop{}\n", spaced(&self.prefix), spaced(&self.cycle))
-    }
-}
-
-fn spaced(letters: &[u8]) -> String {
-    letters.iter().map(|letter| format!(" {letter}")).collect()
-}
+use crate::product::{Edge, Product};
+use crate::word::{first_word, Word};
 
 #[derive(Clone, PartialEq, Eq, Debug)]
 pub enum Comparison {
@@ -39,184 +17,53 @@ pub enum Comparison {
 }
 
 /// "Two automata agree on a word if both accept it or neither does." 14 if they have not the
-/// same number of propositions.
+/// same number of propositions. Whether they differ is told by components; the word is looked
+/// for by itself.
 pub fn compare(first: &Automaton, second: &Automaton) -> Result<Comparison, Refusal> {
     if first.propositions() != second.propositions() {
         return Err(Refusal::new(14, first.propositions() as u64, second.propositions() as u64));
     }
     let product = Product::new(first, second);
-    let only_one = product.word_of_one(0).or_else(|| product.word_of_one(1));
-    Ok(only_one.map_or(Comparison::Same, Comparison::Differ))
+    if !only_one_accepts(&product, 0) && !only_one_accepts(&product, 1) {
+        return Ok(Comparison::Same);
+    }
+    let word = first_word(&product).expect("two automata that differ have a word that shows it");
+    assert_ne!(first.accepts(&word.prefix, &word.cycle), second.accepts(&word.prefix, &word.cycle));
+    Ok(Comparison::Differ(word))
 }
 
-/// What is wrong with a word that is said to tell the two apart, if anything: "With N the
-/// product of the two state counts, prefix <= N - 1 and loop <= (larger set count + 1)N", and
-/// exactly one of the two accepts it.
-pub fn fault(first: &Automaton, second: &Automaton, word: &Word) -> Option<String> {
-    let (pairs, sets) = (first.states() * second.states(), first.sets.max(second.sets));
-    if let Some(fault) = fault_of_lengths(pairs, sets, word.prefix.len(), word.cycle.len()) {
-        return Some(fault);
-    }
-    let outside = |letter: &&u8| **letter as usize >= first.letters();
-    if let Some(letter) = word.prefix.iter().chain(&word.cycle).find(outside) {
-        return Some(format!("{letter} is no letter"));
-    }
-    let accepted = first.accepts(&word.prefix, &word.cycle);
-    if accepted == second.accepts(&word.prefix, &word.cycle) {
-        return Some(format!("{} accept the word", if accepted { "both" } else { "none of the two" }));
-    }
-    None
-}
-
-/// The bounds, with N `pairs` and the larger set count `sets`.
-pub fn fault_of_lengths(pairs: usize, sets: usize, prefix: usize, cycle: usize) -> Option<String> {
-    let most = (sets + 1) * pairs;
-    if prefix > pairs - 1 {
-        return Some(format!("the prefix has {prefix} letters, more than {}", pairs - 1));
-    }
-    if cycle < 1 || cycle > most {
-        return Some(format!("the loop has {cycle} letters, not 1 to {most}"));
-    }
-    None
-}
-
-/// A transition of the product, with the marks it has in each of the two.
-#[derive(Clone, Copy)]
-struct Edge {
-    letter: u8,
-    to: usize,
-    marks: [u8; 2],
-}
-
-struct Product {
-    start: usize,
-    all_marks: [u8; 2],
-    sets: [usize; 2],
-    edges: Vec<Vec<Edge>>,
-}
-
-impl Product {
-    fn new(first: &Automaton, second: &Automaton) -> Product {
-        let pair = |a: usize, b: usize| a * second.states() + b;
-        let mut edges = Vec::new();
-        for a in 0..first.states() {
-            for b in 0..second.states() {
-                let edge = |letter: usize| {
-                    let (one, other) = (first.step(a, letter), second.step(b, letter));
-                    Edge { letter: letter as u8, to: pair(one.to, other.to), marks: [one.marks, other.marks] }
-                };
-                edges.push((0..first.letters()).map(edge).collect());
-            }
-        }
-        Product {
-            start: pair(first.start, second.start),
-            all_marks: [first.all_marks(), second.all_marks()],
-            sets: [first.sets, second.sets],
-            edges,
-        }
-    }
-
-    /// A word that automaton `one` (0 or 1) accepts and the other does not.
-    fn word_of_one(&self, one: usize) -> Option<Word> {
-        let other = 1 - one;
-        (0..self.sets[other]).find_map(|set| {
-            let without = |edge: &Edge| edge.marks[other] >> set & 1 == 0;
-            let components = self.components(&without);
-            let reached = self.reached();
-            components.into_iter().filter(|component| reached[component[0]]).find_map(|component| {
-                let inside = |edge: &Edge| without(edge) && component.contains(&edge.to);
-                let here = component.iter().flat_map(|&state| self.edges[state].iter().filter(|e| inside(e)));
-                let (count, met) = here.fold((0, 0), |(count, met), edge| (count + 1, met | edge.marks[one]));
-                let all_met = count > 0 && met == self.all_marks[one];
-                all_met.then(|| self.word_through(one, component[0], &inside))
-            })
+/// Whether automaton `one` (0 or 1) accepts a word that the other does not.
+fn only_one_accepts(product: &Product, one: usize) -> bool {
+    let other = 1 - one;
+    let reached = product.reached();
+    (0..product.sets[other]).any(|set| {
+        let without = |edge: &Edge| edge.marks[other] >> set & 1 == 0;
+        components(product, &without).iter().filter(|component| reached[component[0]]).any(|component| {
+            let inside = |edge: &&Edge| without(edge) && component.contains(&edge.to);
+            let here = component.iter().flat_map(|&pair| product.edges[pair].iter().filter(inside));
+            let (count, met) = here.fold((0, 0), |(count, met), edge| (count + 1, met | edge.marks[one]));
+            count > 0 && met == product.all_marks[one]
         })
-    }
-
-    fn reached(&self) -> Vec<bool> {
-        let mut reached = vec![false; self.edges.len()];
-        let mut open = vec![self.start];
-        while let Some(state) = open.pop() {
-            if !std::mem::replace(&mut reached[state], true) {
-                open.extend(self.edges[state].iter().map(|edge| edge.to));
-            }
-        }
-        reached
-    }
-
-    /// The strongly connected components of the product with the allowed transitions only.
-    fn components(&self, allowed: &dyn Fn(&Edge) -> bool) -> Vec<Vec<usize>> {
-        let mut search = Components {
-            product: self,
-            allowed,
-            number: vec![0; self.edges.len()],
-            low: vec![0; self.edges.len()],
-            numbered: 0,
-            stack: Vec::new(),
-            found: Vec::new(),
-        };
-        for state in 0..self.edges.len() {
-            if search.number[state] == 0 {
-                search.visit(state);
-            }
-        }
-        search.found
-    }
-
-    /// From `state` by inside transitions once through each set of `one` and back: at most N
-    /// letters for each set, and N for the way back.
-    fn word_through(&self, one: usize, state: usize, inside: &dyn Fn(&Edge) -> bool) -> Word {
-        let prefix = if state == self.start {
-            Vec::new()
-        } else {
-            letters(&self.path(self.start, &|_| true, &|edge| edge.to == state))
-        };
-        let mut cycle: Vec<Edge> = Vec::new();
-        let now = |cycle: &[Edge]| cycle.last().map_or(state, |edge| edge.to);
-        for set in 0..self.sets[one] {
-            let carries = |edge: &Edge| edge.marks[one] >> set & 1 == 1;
-            if !cycle.iter().any(carries) {
-                cycle.extend(self.path(now(&cycle), inside, &carries));
-            }
-        }
-        if cycle.is_empty() || now(&cycle) != state {
-            cycle.extend(self.path(now(&cycle), inside, &|edge| edge.to == state));
-        }
-        Word { prefix, cycle: letters(&cycle) }
-    }
-
-    /// A shortest path of allowed transitions from `from`, the last of which is wanted.
-    fn path(&self, from: usize, allowed: &dyn Fn(&Edge) -> bool, wanted: &dyn Fn(&Edge) -> bool) -> Vec<Edge> {
-        let mut before: Vec<Option<(usize, Edge)>> = vec![None; self.edges.len()];
-        let mut open = VecDeque::from([from]);
-        while let Some(state) = open.pop_front() {
-            for edge in self.edges[state].iter().filter(|edge| allowed(edge)) {
-                if wanted(edge) {
-                    return self.way(from, state, *edge, &before);
-                }
-                if edge.to != from && before[edge.to].is_none() {
-                    before[edge.to] = Some((state, *edge));
-                    open.push_back(edge.to);
-                }
-            }
-        }
-        unreachable!("a wanted transition can be reached in its component")
-    }
-
-    fn way(&self, from: usize, mut state: usize, last: Edge, before: &[Option<(usize, Edge)>]) -> Vec<Edge> {
-        let mut way = vec![last];
-        while state != from {
-            let (earlier, edge) = before[state].unwrap();
-            way.push(edge);
-            state = earlier;
-        }
-        way.reverse();
-        way
-    }
+    })
 }
 
-fn letters(edges: &[Edge]) -> Vec<u8> {
-    edges.iter().map(|edge| edge.letter).collect()
+/// The strongly connected components of the product with the allowed transitions only.
+fn components(product: &Product, allowed: &dyn Fn(&Edge) -> bool) -> Vec<Vec<usize>> {
+    let mut search = Components {
+        product,
+        allowed,
+        number: vec![0; product.edges.len()],
+        low: vec![0; product.edges.len()],
+        numbered: 0,
+        stack: Vec::new(),
+        found: Vec::new(),
+    };
+    for pair in 0..product.edges.len() {
+        if search.number[pair] == 0 {
+            search.visit(pair);
+        }
+    }
+    search.found
 }
 
 /// Tarjan's search for strongly connected components.
@@ -262,6 +109,21 @@ mod tests {
         let names = (0..k).map(|i| vec![b'a' + i as u8]).collect();
         let row = |row: &&[(usize, u8)]| row.iter().map(|&(to, marks)| Transition { to, marks }).collect();
         Automaton { start: 0, sets, names, table: rows.iter().map(row).collect() }
+    }
+
+    /// What is wrong with a word, if anything: "With N the product of the two state counts, prefix
+    /// <= N - 1 and loop <= (larger set count + 1)N", and exactly one of the two accepts it.
+    fn fault(first: &Automaton, second: &Automaton, word: &Word) -> Option<String> {
+        let (pairs, sets) = (first.states() * second.states(), first.sets.max(second.sets));
+        let (prefix, cycle) = (word.prefix.len(), word.cycle.len());
+        if prefix > pairs - 1 || cycle < 1 || cycle > (sets + 1) * pairs {
+            return Some(format!("the prefix has {prefix} letters, the loop {cycle}"));
+        }
+        let accepted = first.accepts(&word.prefix, &word.cycle);
+        if accepted == second.accepts(&word.prefix, &word.cycle) {
+            return Some(format!("{} accept the word", if accepted { "both" } else { "none of the two" }));
+        }
+        None
     }
 
     fn differ(first: &Automaton, second: &Automaton) -> bool {

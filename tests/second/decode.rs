@@ -2,8 +2,9 @@
 
 use crate::automaton::*;
 use crate::clauses::Numbering;
-use crate::compare::{compare, Comparison, Word};
+use crate::compare::{compare, Comparison};
 use crate::solver::{Answer, Reader, Verdict};
+use crate::word::Word;
 use std::io::Read;
 
 #[derive(Clone, PartialEq, Eq, Debug)]
@@ -11,8 +12,8 @@ pub enum Decoded {
     Table(Automaton),
     None,
     Unknown,
-    /// 12: the table differs from the reference on this word.
-    Differs(Automaton, Word),
+    /// 12: the table differs from the reference, and this word shows it.
+    Differs(Word),
 }
 
 /// Order: "8, then reading left to right, then 11, 14, 12".
@@ -43,7 +44,7 @@ fn read<R: Read>(mut text: R, mut reader: Reader) -> Result<Answer, Refusal> {
 fn judge(reference: &Automaton, table: Automaton) -> Result<Decoded, Refusal> {
     match compare(&table, reference)? {
         Comparison::Same => Ok(Decoded::Table(table)),
-        Comparison::Differ(word) => Ok(Decoded::Differs(table, word)),
+        Comparison::Differ(word) => Ok(Decoded::Differs(word)),
     }
 }
 
@@ -109,7 +110,7 @@ mod tests {
         // n = 2, m = 1, L = 1: steps 1 to 4, marks 5 to 8. State 0 has both steps, and only the
         // higher one is marked: "Joining the marks of two chosen destinations" went wrong.
         let decoded = decode(&all_words(), 2, 1, &b"s SATISFIABLE\nv 1 2 6 4 8 0"[..]);
-        let Ok(Decoded::Differs(_, word)) = decoded else { panic!("{decoded:?}") };
+        let Ok(Decoded::Differs(word)) = decoded else { panic!("{decoded:?}") };
         assert_eq!(word, Word { prefix: vec![], cycle: vec![0] });
         let decoded = decode(&all_words(), 2, 1, &b"s SATISFIABLE\nv 1 2 5 4 8 0"[..]);
         assert!(matches!(decoded, Ok(Decoded::Table(_))));

@@ -358,7 +358,7 @@ mod tests {
                 Ok(Decoded::Table(_)) => said[0] += 1,
                 Ok(Decoded::None) => said[1] += 1,
                 Ok(Decoded::Unknown) => said[2] += 1,
-                Ok(Decoded::Differs(_, word)) => count[word.refusal().number as usize] += 1,
+                Ok(Decoded::Differs(word)) => count[word.refusal().number as usize] += 1,
                 Err(refusal) => count[refusal.number as usize] += 1,
             }
         }

@@ -1,5 +1,5 @@
-//! A second program for the service-table reducer, written from document 01 alone, with which
-//! the first one is compared. It shares no code with it.
+//! A second program for the service-table reducer, written from documents 01 and 02 alone, with
+//! which the first one is compared. It shares no code with it.
 //!
 //!     normalize < FILE
 //!     clauses N M < REFERENCE
@@ -27,8 +27,10 @@ mod generate_hoa;
 mod generate_solver;
 mod hoa;
 mod printed;
+mod product;
 mod search;
 mod solver;
+mod word;
 
 use automaton::{judge_sizes, Automaton, Refusal};
 use printed::{comparison_text, decoded_text, refusal_text, search_text};

@@ -1,10 +1,11 @@
 //! What each call prints.
 
 use crate::automaton::Refusal;
-use crate::compare::{Comparison, Word};
+use crate::compare::Comparison;
 use crate::decode::Decoded;
 use crate::hoa;
 use crate::search::Search;
+use crate::word::Word;
 
 pub fn refusal_text(refusal: &Refusal) -> Vec<u8> {
     format!("{refusal}\n").into_bytes()
@@ -21,7 +22,7 @@ pub fn comparison_text(comparison: &Comparison) -> String {
 }
 
 /// What the decoder prints on 12.
-pub fn differs_text(word: &Word) -> String {
+fn differs_text(word: &Word) -> String {
     format!("{}\n{}", word.refusal(), word.lines())
 }
 
@@ -30,7 +31,7 @@ pub fn decoded_text(decoded: &Decoded) -> Vec<u8> {
         Decoded::Table(table) => hoa::write(table),
         Decoded::None => b"none\n".to_vec(),
         Decoded::Unknown => b"unknown\n".to_vec(),
-        Decoded::Differs(_, word) => differs_text(word).into_bytes(),
+        Decoded::Differs(word) => differs_text(word).into_bytes(),
     }
 }
 

@@ -33,7 +33,7 @@ impl<'a> Search<'a> {
             Decoded::Table(table) => self.found(table),
             Decoded::None => self.none(),
             Decoded::Unknown => self.unknown(),
-            Decoded::Differs(_, word) => return Err(word.refusal()),
+            Decoded::Differs(word) => return Err(word.refusal()),
         }
         Ok(())
     }

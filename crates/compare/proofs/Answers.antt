@@ -75,14 +75,14 @@ found {p = p} {l = l} R (Found i j) (x, y, ex, ey, ep, el, w) {r} e = record {
   short-loop = λ _ g. absurd (omega (arith, R .loop-room));
   outside = λ _ _ g. absurd (g (R .valid-a, R .valid-b));
   letters = λ _ _ _ _ g. absurd (g (R .same-propositions));
-  same = λ _ _ _ _ _ g. absurd (distinguished (w .apart) g);
+  same = λ _ _ _ _ _ g. absurd (distinguished (w .shows .apart) g);
   differ = λ _ _ _ _ _ _. record {
     x = x;
     y = y;
     says = says;
     prefix-is = ep ∙ ap (λ k. x ++ drop k p) (sym ex);
     loop-is = el ∙ ap (λ k. y ++ drop k l) (sym ey);
-    witness = w;
+    word = w;
     number = ap returned says;
   };
 }

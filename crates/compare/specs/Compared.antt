@@ -3,9 +3,10 @@ use mathlib.Core.Path.{_≡_}
 use mathlib.Core.Logic.{_≢_}
 use mathlib.Core.List.{List, _++_}
 use mathlib.Core.Option.{Option, none, some}
-use Prim.Native.Nat.{ℕ, suc, _*_, _≤_, _<_, max}
+use Prim.Native.Nat.{ℕ, _≤_, _<_}
 use lib.ListN.{length, drop}
-use Rattle.meaning.specs.Agreement.{Agree, Distinguishes}
+use Rattle.meaning.specs.Agreement.{Agree}
+use Rattle.meaning.specs.FirstWord.{FirstWord}
 use Rattle.automaton.specs.declared.Automaton.{Automaton}
 use Rattle.refusals.specs.declared.Code.{Code}
 use Rattle.refusals.specs.declared.Refusal.the-variants.{Outside, Differ, Short, Propositions}
@@ -19,13 +20,6 @@ use Rattle.compare.specs.declared.Comparison.the-variants.{Same, Refused
 abbrev pub returned : Comparison → Option Code
 returned Same = none
 returned (Refused f) = some (codeOf f)
-
--- a word of document 01's 12: one automaton accepts it and the other rejects it. "With N the product of the two state counts, prefix ≤ N - 1 and
--- loop ≤ (larger set count + 1)N."
-pub record Witness (a b : Automaton) (x y : List ℕ) : Type 0 where
-  pub apart : Distinguishes (view a) (view b) x y
-  pub prefix-lt : length x < a .states * b .states
-  pub loop-le : length y ≤ suc (max (a .sets) (b .sets)) * (a .states * b .states)
 
 -- "Buffers: prefix 256 and loop 1,280 (one byte a letter)"
 abbrev pub prefixRoom : ℕ
@@ -45,14 +39,14 @@ module _ (a b : Automaton) (prefix prefix-after loop loop-after : List ℕ) (ans
   abbrev pub Untouched : Comparison → Option Code → Type 0
   Untouched r c = (answer ≡ r) × (prefix-after ≡ prefix) × (loop-after ≡ loop) × (returned answer ≡ c)
 
-  -- 12: "On 12 only the stated lengths are written."
+  -- 12: the first word that shows the difference. "On 12 only the stated lengths are written."
   pub record Shown : Type 0 where
     pub x : List ℕ
     pub y : List ℕ
     pub says : answer ≡ Refused (Differ (length x) (length y))
     pub prefix-is : prefix-after ≡ x ++ drop (length x) prefix
     pub loop-is : loop-after ≡ y ++ drop (length y) loop
-    pub witness : Witness a b x y
+    pub word : FirstWord (view a) (view b) x y
     pub number : returned answer ≡ some (row 12 (length x) (length y))
 
   -- "Order: 13 (prefix before loop), 4 for handed values, .. 14, 12."

@@ -10,15 +10,14 @@ use Rattle.meaning.specs.Tests.{all}
 use Rattle.meaning.specs.TestLaws.{all-same}
 use Rattle.meaning.specs.BitSet.{has}
 use Rattle.meaning.specs.Automata.{Aut}
-use Rattle.meaning.specs.Agreement.{Agree, Comparable, Distinguishes, Over}
+use Rattle.meaning.specs.Agreement.{Comparable, Over}
 use Rattle.meaning.specs.Run.{after, seen, run-lt}
-use Rattle.meaning.specs.ClosedLoop.{verdict, Closed, CyclesAgree}
-use Rattle.meaning.specs.CycleLemma.{cycles→agree}
-use Rattle.meaning.specs.Decision.{CycleAgrees, Difference, classify, distinguishes, over-A, over-B}
+use Rattle.meaning.specs.ClosedLoop.{verdict, Closed}
+use Rattle.meaning.specs.Decision.{CycleAgrees, Difference, classify, over-A, over-B}
 use Rattle.automaton.specs.declared.Automaton.{Automaton}
 use Rattle.automaton.specs.Value.{Valid, letters}
 use Rattle.automaton.specs.View.{view}
-use Rattle.automaton.specs.ViewLaws.{view-formed}
+use Rattle.automaton.specs.ViewLaws.{view-comparable}
 use Rattle.bits.specs.Powers.{power-le}
 use Rattle.automaton.specs.Letters.{letters-le}
 use Rattle.compare_tables.specs.Tables.{entry, InRange, Below}
@@ -71,7 +70,7 @@ module _ {a b : Automaton} {H : List ℕ} (T : Pair a b H) where
   B = view b
 
   pub comparable : Comparable (view a) (view b)
-  comparable = record { formed-A = view-formed (T .valid-a); formed-B = view-formed (T .valid-b); same-letters = ap (λ k. 2 ^ k) (T .same-propositions) }
+  comparable = view-comparable (T .valid-a) (T .valid-b) (T .same-propositions)
 
   module _ (x : List ℕ) (ox : Over (letters a) x) (y : List ℕ) (oy : Over (letters a) y) where
     met-A : ℕ
@@ -126,16 +125,3 @@ module _ {a b : Automaton} {H : List ℕ} (T : Pair a b H) where
   difference-shown x y (inl E) = shown x y (E .over-x) (E .over-y) (E .some) (E .closed-A) (E .closed-B) (λ e. true≢false (sym (E .yes-A) ∙ e ∙ E .no-B))
   difference-shown x y (inr E) =
       shown x y (over-A comparable x (E .over-x)) (over-A comparable y (E .over-y)) (E .some) (E .closed-B) (E .closed-A) (λ e. true≢false (sym (E .yes-A) ∙ sym e ∙ E .no-B))
-
-  -- where no word is found the automata agree
-  pub none-agree : ((x y : List ℕ) → ¬ Shown a b H x y) → Agree (view a) (view b)
-  unfolding CyclesAgree
-  none-agree none = cycles→agree comparable (λ x y ox oy ne ca cb. go x y ne ca cb (classify comparable x ox y oy))
-    where
-      go : (x y : List ℕ) → y ≢ [] → Closed A x y → Closed B x y → CycleAgrees A B x y ⊎ Difference A B x y → verdict A x y ≡ verdict B x y
-      go x y ne ca cb (inl f) = f ne ca cb
-      go x y ne ca cb (inr d) = absurd (none x y (difference-shown x y d))
-
-  -- and a word that is found distinguishes them
-  pub shown-distinguishes : (x y : List ℕ) → Shown a b H x y → Distinguishes (view a) (view b) x y
-  shown-distinguishes x y S = distinguishes comparable x y (shown-difference x y S)

@@ -1,11 +1,13 @@
 -- What the search for a difference is given, and what it finds.
 use mathlib.Core.Path.{_≡_, subst}
-use mathlib.Core.Logic.{inl, inr}
+use mathlib.Core.Logic.{⊎-elim}
 use mathlib.Core.List.{List, _++_}
-use Prim.Native.Nat.{ℕ, _+_, _≤_}
+use Prim.Native.Nat.{ℕ, _≤_}
 use native.Mathlib.Omega.{arith}
 use lib.ListN.{length, drop}
 use Rattle.meaning.specs.Agreement.{Agree}
+use Rattle.meaning.specs.FirstWord.{FirstWord}
+use Rattle.meaning.specs.FirstWordLaws.{shows-difference, agree-or-first}
 use Rattle.automaton.specs.declared.Automaton.{Automaton}
 use Rattle.refusals.specs.declared.Refusal.the-variants.{Outside, Differ}
 use Rattle.automaton.specs.Value.{Valid, letters}
@@ -14,12 +16,12 @@ use Rattle.automaton.specs.Letters.{letters-le}
 use Rattle.compare_shortest.specs.declared.Verdict.{Verdict}
 use Rattle.compare_shortest.specs.declared.Verdict.the-variants.{Same as None, Differ as Found, Unfit}
 use Rattle.compare_shortest.specs.Difference.{Shows, Fit}
-use Rattle.compare_shortest.specs.Order.{Answer, Answered, Within, Precedes}
+use Rattle.compare_shortest.specs.Answer.{Answer, Answered, Within}
 use Rattle.compare.specs.declared.Comparison.{Comparison}
 use Rattle.compare.specs.declared.Comparison.the-variants.{Same, Refused}
-use Rattle.compare.specs.Compared.{Witness, prefixRoom, loopRoom}
-use Rattle.compare.specs.Differences.{Pair, Shown, in-range, none-agree}
-use Rattle.compare.specs.Bounds.{fitting, least-witness}
+use Rattle.compare.specs.Compared.{prefixRoom, loopRoom}
+use Rattle.compare.specs.Differences.{Pair, Shown, in-range, comparable, shown-difference, difference-shown}
+use Rattle.compare.specs.Bounds.{word-fits, first-fitting}
 
 -- two automata that can be compared, and room for every word that may be found
 pub record Ready (a b : Automaton) (p l : ℕ) : Type 0 where
@@ -35,16 +37,13 @@ answered None = Same
 answered (Found p l) = Refused (Differ p l)
 answered Unfit = Refused Outside
 
--- the automata agree, or a witness stands in the front of the two buffers; their tables are never unfit
+-- the automata agree, or the first word that shows a difference stands in the front of the two buffers; their tables are never unfit
 abbrev pub Searched : Automaton → Automaton → List ℕ → List ℕ → List ℕ → List ℕ → Verdict → Type 0
 Searched a b prefix prefix-after loop loop-after None = Agree (view a) (view b) × (prefix-after ≡ prefix) × (loop-after ≡ loop)
 Searched a b prefix prefix-after loop loop-after (Found p l) =
-    (x : List ℕ) × (y : List ℕ) × (length x ≡ p) × (length y ≡ l) × (prefix-after ≡ x ++ drop p prefix) × (loop-after ≡ y ++ drop l loop) × Witness a b x y
+    (x : List ℕ) × (y : List ℕ) × (length x ≡ p) × (length y ≡ l) × (prefix-after ≡ x ++ drop p prefix) × (loop-after ≡ y ++ drop l loop)
+    × FirstWord (view a) (view b) x y
 Searched a b prefix prefix-after loop loop-after Unfit = ⊥
-
-precedes-total : (x y u v : List ℕ) → Precedes x y u v → length x + length y ≤ length u + length v
-precedes-total x y u v (inl h) = omega arith
-precedes-total x y u v (inr h) = omega (arith, h .0)
 
 -- the words that the search looks for, over L letters
 abbrev pub Looked : Automaton → Automaton → List ℕ → ℕ → List ℕ → List ℕ → Type 0
@@ -57,11 +56,12 @@ Handed a b L = Fit (a .destinations) (a .marks) (b .destinations) (b .marks) L (
 -- from these words to the automata
 module _ {a b : Automaton} {H : List ℕ} (T : Pair a b H) (prefix prefix-after loop loop-after : List ℕ) (hp : prefixRoom ≤ length prefix) (hl : loopRoom ≤ length loop) where
   by-verdict : (r : Verdict) → Answer (Within (length prefix) (length loop) (Shown a b H)) prefix prefix-after loop loop-after r → Searched a b prefix prefix-after loop loop-after r
-  by-verdict None (none, ep, el) = (
-    none-agree T (λ x y S. (let (u, v, S₁, hu, hv) = fitting T x y S in none u v (record { shows = S₁; prefix-fits = omega arith; loop-fits = omega arith }))),
-    ep,
-    el,
-  )
+  by-verdict None (none, ep, el) = (⊎-elim (λ agree. agree) (λ (x, y, F). absurd (none x y (fits x y F))) (agree-or-first (comparable T)), ep, el)
+    where
+      fits : (x y : List ℕ) → FirstWord (view a) (view b) x y → Within (length prefix) (length loop) (Shown a b H) x y
+      fits x y F =
+          let (hx, hy) = word-fits (T .valid-a) (T .valid-b) (T .same-propositions) F in
+          record { shows = difference-shown T x y (shows-difference (comparable T) x y (F .shows)); prefix-fits = omega arith; loop-fits = omega arith }
   by-verdict (Found p l) F = (
     F .x,
     F .y,
@@ -69,8 +69,8 @@ module _ {a b : Automaton} {H : List ℕ} (T : Pair a b H) (prefix prefix-after 
     F .loop-length,
     F .prefix-written,
     F .loop-written,
-    least-witness T (F .x) (F .y) (F .shows .shows) (length prefix) (length loop) hp hl (F .shows .prefix-fits) (F .shows .loop-fits)
-        (λ u v S hu hv. precedes-total (F .x) (F .y) u v (F .best u v (record { shows = S; prefix-fits = hu; loop-fits = hv }))),
+    first-fitting (T .valid-a) (T .valid-b) (T .same-propositions) (length prefix) (length loop) hp hl (F .x) (F .y) (shown-difference T (F .x) (F .y) (F .shows .shows))
+        (λ u v d hu hv. F .best u v (record { shows = difference-shown T u v d; prefix-fits = hu; loop-fits = hv })),
   )
   by-verdict Unfit none = none
 

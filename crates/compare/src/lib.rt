@@ -1,4 +1,4 @@
-// The comparison of two automata: the same, or a lasso word that shows the difference.
+// The comparison of two automata: the same, or the first lasso word that shows the difference.
 use automaton::Automaton;
 use bits::powers::power_of_two;
 use compare_shortest::HITS;
@@ -24,7 +24,7 @@ impl Comparison {
     pub const LOOP: usize = (Automaton::SETS + 1) * Comparison::PREFIX;
 }
 
-// Whether two automata agree on every lasso word. Where they do not, a word that shows it is written into `prefix` and `cycle`.
+// Whether two automata agree on every lasso word. Where they do not, the first word that shows it is written into `prefix` and `cycle`.
 pub fn compare(
     first: Automaton,
     second: Automaton,
@@ -51,7 +51,7 @@ pub fn compare(
     answer(difference(first, second, prefix, cycle))
 }
 
-// The search for a word that shows a difference.
+// The search for the first word that shows a difference.
 fn difference(first: Automaton, second: Automaton, prefix: &mut [u8], cycle: &mut [u8]) -> Verdict
     requires { ⌜ Ready first second (length (now prefix)) (length (now cycle)) ⌝ }
     ensures { λ r. ⌜ Searched first second (now (prefix .entry)) (now (prefix .exit)) (now (cycle .entry)) (now (cycle .exit)) r ⌝ }

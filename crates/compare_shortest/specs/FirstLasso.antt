@@ -1,5 +1,5 @@
 -- The outer search and the choice of a place give the first of all words: a word x to a node, and a loop y there that is a hit.
-use mathlib.Core.Path.{_≡_, refl, sym, ap, _∙_, subst}
+use mathlib.Core.Path.{_≡_, refl, sym, _∙_, subst}
 use mathlib.Core.Logic.{_⊎_, inl, inr}
 use mathlib.Core.List.{List, _++_}
 use Prim.Native.Nat.{ℕ, _+_, _≤_, _<_}
@@ -7,8 +7,10 @@ use native.Mathlib.Decide.{decLt, ℕ-discrete}
 use native.Mathlib.Omega.{arith}
 use lib.ListN.{length, drop}
 use Rattle.compare_shortest.specs.declared.Verdict.the-variants.{Same, Differ}
-use Rattle.compare_shortest.specs.Order.{Smaller, Precedes, Within, Answer}
-use Rattle.compare_shortest.specs.WordOrder.{Earlier, NotLater, earlier-trans, not-later-length, earlier-smaller, smaller-append, smaller-front}
+use Rattle.meaning.specs.FirstWord.{Smaller, Precedes}
+use Rattle.meaning.specs.WordOrder.{precedes-by}
+use Rattle.compare_shortest.specs.Answer.{Within, Answer}
+use Rattle.compare_shortest.specs.WordOrder.{NotLater, earlier-trans, not-later-length, earlier-smaller, not-later-smaller}
 use Rattle.compare_shortest.specs.SearchWords.{back, word, length-word, word-over, word-run, words-rise, depths-rise}
 use Rattle.compare_shortest.specs.SearchComplete.{Reached, Beyond, reached}
 use Rattle.compare_shortest.specs.ReadBack.{Chain, chain}
@@ -18,28 +20,6 @@ use Rattle.compare_shortest.specs.State.{State}
 use Rattle.compare_shortest.specs.Explored.{Searched}
 use Rattle.compare_shortest.specs.ClosestLoop.{FirstLoop, LoopWritten}
 use Rattle.compare_shortest.specs.Choice.{Choosing}
-
--- x before u, and y before v where x and u are the same, puts the first word before the second
-precedes-by : (x y u v : List ℕ) → length x + length y ≤ length u + length v → (length x + length y ≡ length u + length v → length x ≤ length u)
-    → (length x ≡ length u → length y ≡ length v → Earlier x u ⊎ ((x ≡ u) × NotLater y v)) → Precedes x y u v
-precedes-by x y u v total prefix letters = go (decLt (length x + length y) (length u + length v)) (decLt (length x) (length u))
-  where
-    same-prefix : x ≡ u → NotLater y v → length y ≡ length v → Smaller (x ++ y) (u ++ v) ⊎ (x ++ y ≡ u ++ v)
-    same-prefix e (inl h) q = inl (subst (λ w. Smaller (x ++ y) (w ++ v)) e (smaller-front x y v (earlier-smaller y v q h)))
-    same-prefix e (inr h) q = inr (ap (λ w. x ++ w) h ∙ ap (λ w. w ++ v) e)
-
-    by-letters : length x ≡ length u → length y ≡ length v → Earlier x u ⊎ ((x ≡ u) × NotLater y v) → Smaller (x ++ y) (u ++ v) ⊎ (x ++ y ≡ u ++ v)
-    by-letters p q (inl h) = inl (smaller-append x u y v (earlier-smaller x u p h))
-    by-letters p q (inr h) = same-prefix (h .0) (h .1) q
-
-    go : Dec (length x + length y < length u + length v) → Dec (length x < length u) → Precedes x y u v
-    go (yes h) d = inl h
-    go (no h) (yes d) = inr (omega arith, inl d)
-    go (no h) (no d) =
-        let sum : length x + length y ≡ length u + length v = omega arith in
-        let p : length x ≡ length u = omega (arith, prefix sum) in
-        let q : length y ≡ length v = omega arith in
-        inr (sum, inr (p, by-letters p q (letters p q)))
 
 module _ {P D H outer : List ℕ} {L root most bound n m b t : ℕ} (X : Searched P H outer L root 256 most n m) (C : Choosing D H outer L bound (most + bound + 1) n n b t) where
   abbrev S : State P (X .seen) outer L root n (X .explored .here) 0
@@ -122,7 +102,7 @@ module _ {P D H outer : List ℕ} {L root most bound n m b t : ℕ} (X : Searche
     best u w z = precedes-by x y u w
         (omega (arith, length-x, F .size, total, total-there u w z, depth-there u w z))
         (λ e. omega (arith, length-x, F .size, total, total-there u w z, depth-there u w z, depths-rise (S .search) b place (not-before e) (R u w z .within)))
-        (λ e f. letters (ℕ-discrete b place) (not-before (omega arith)))
+        (λ e f. letters e f (ℕ-discrete b place) (not-before (omega arith)))
       where
         place : ℕ
         place = R u w z .place
@@ -134,13 +114,14 @@ module _ {P D H outer : List ℕ} {L root most bound n m b t : ℕ} (X : Searche
             go (no h) = omega arith
             go (yes h) = absurd (omega (arith, length-x, F .size, total, depth-there u w z, C .first g place h w (loop-there u w z) (z .loop-fits)))
 
-        letters : Dec (b ≡ place) → b ≤ place → Earlier x u ⊎ ((x ≡ u) × NotLater y w)
-        letters (no h) r = inl (earlier-trans x (word (view outer) place) u (words-rise (S .search) b place (omega arith) (R u w z .within)) (R u w z .first))
-        letters (yes h) r = at-place (subst (λ i. NotLater (word (view outer) i) u) (sym h) (R u w z .first))
+        letters : length x ≡ length u → length y ≡ length w → Dec (b ≡ place) → b ≤ place → Smaller x u ⊎ ((x ≡ u) × (Smaller y w ⊎ (y ≡ w)))
+        letters e f (no h) r =
+            inl (earlier-smaller x u e (earlier-trans x (word (view outer) place) u (words-rise (S .search) b place (omega arith) (R u w z .within)) (R u w z .first)))
+        letters e f (yes h) r = at-place (not-later-smaller x u e (subst (λ i. NotLater (word (view outer) i) u) (sym h) (R u w z .first)))
           where
-            at-place : NotLater x u → Earlier x u ⊎ ((x ≡ u) × NotLater y w)
-            at-place (inl e) = inl e
-            at-place (inr e) = inr (e, first-at w (subst (λ i. HitLoop D H L (nodeOf (at outer i)) w) (sym h) (loop-there u w z)))
+            at-place : Smaller x u ⊎ (x ≡ u) → Smaller x u ⊎ ((x ≡ u) × (Smaller y w ⊎ (y ≡ w)))
+            at-place (inl s) = inl s
+            at-place (inr s) = inr (s, not-later-smaller y w f (first-at w (subst (λ i. HitLoop D H L (nodeOf (at outer i)) w) (sym h) (loop-there u w z))))
 
     pub answer-found : {d : ℕ} {prefix written-prefix : List ℕ} → d ≡ p → written-prefix ≡ back (view outer .edge) d b ++ drop d prefix
         → Answer Q prefix written-prefix cycle written-cycle (Differ d r)

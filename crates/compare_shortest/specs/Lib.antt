@@ -1,6 +1,6 @@
 pub mod Difference
-pub mod Order
-pub mod Answers
+pub mod Answer
+pub mod AnswerLaws
 pub mod Met
 pub mod Union
 pub mod WordOrder

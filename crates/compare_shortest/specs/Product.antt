@@ -11,8 +11,8 @@ use Rattle.compare_shortest.specs.Graph.{at, succ, Hit, HitLoop, HitLass
 use Rattle.compare_tables.specs.Tables.{entry, Below}
 use Rattle.compare_shortest.specs.Difference.{met, Fit, Shows}
 use Rattle.compare_shortest.specs.declared.Verdict.{Verdict}
-use Rattle.compare_shortest.specs.Order.{Within, Answer}
-use Rattle.compare_shortest.specs.Answers.{answer-same, within-same}
+use Rattle.compare_shortest.specs.Answer.{Within, Answer}
+use Rattle.compare_shortest.specs.AnswerLaws.{answer-same, within-same}
 use Rattle.compare_shortest.specs.Met.{run-lt, met-lt}
 use Rattle.compare_shortest.specs.Union.{or-assoc}
 use Rattle.compare_shortest.specs.ProductTables.{pairAt, Tables}

@@ -1,12 +1,13 @@
 -- The order in which a breadth-first search finds words: by length, and at one length by the first difference.
-use mathlib.Core.Path.{_≡_, refl, sym, ap, _∙_, subst}
+use mathlib.Core.Path.{_≡_, sym, ap, _∙_, subst}
 use mathlib.Core.Logic.{_⊎_, inl, inr}
 use mathlib.Core.List.{List, [], _∷_, _++_, append-nil}
 use Prim.Native.Nat.{ℕ, suc, _≤_, _<_}
 use native.Mathlib.Nat.{le-of-eq}
 use native.Mathlib.Omega.{arith}
 use lib.ListN.{length, length-append}
-use Rattle.compare_shortest.specs.Order.{Smaller}
+use Rattle.meaning.specs.FirstWord.{Smaller}
+use Rattle.meaning.specs.WordOrder.{smaller-append, smaller-front}
 
 abbrev pub Earlier : List ℕ → List ℕ → Type 0
 Earlier u v = (length u < length v) ⊎ ((length u ≡ length v) × Smaller u v)
@@ -25,16 +26,6 @@ smaller-trans (a ∷ u) (b ∷ v) (c ∷ w) h g = go h g (λ p q. smaller-trans 
     go (inl p) (inr q) ih = inl (omega (arith, q .0))
     go (inr p) (inl q) ih = inl (omega (arith, p .0))
     go (inr p) (inr q) ih = inr (p .0 ∙ q .0, ih (p .1) (q .1))
-
-pub smaller-append : (u v s t : List ℕ) → Smaller u v → Smaller (u ++ s) (v ++ t)
-smaller-append [] v s t h = absurd h
-smaller-append (a ∷ u) [] s t h = absurd h
-smaller-append (a ∷ u) (b ∷ v) s t (inl h) = inl h
-smaller-append (a ∷ u) (b ∷ v) s t (inr h) = inr (h .0, smaller-append u v s t (h .1))
-
-pub smaller-front : (u s t : List ℕ) → Smaller s t → Smaller (u ++ s) (u ++ t)
-smaller-front [] s t h = h
-smaller-front (a ∷ u) s t h = inr (refl, smaller-front u s t h)
 
 pub earlier-trans : (u v w : List ℕ) → Earlier u v → NotLater v w → Earlier u w
 earlier-trans u v w h (inr e) = subst (Earlier u) e h
@@ -55,6 +46,10 @@ not-later-length u v (inr e) = le-of-eq (ap length e)
 pub earlier-smaller : (u v : List ℕ) → length u ≡ length v → Earlier u v → Smaller u v
 earlier-smaller u v e (inl h) = absurd (omega arith)
 earlier-smaller u v e (inr h) = h .1
+
+pub not-later-smaller : (u v : List ℕ) → length u ≡ length v → NotLater u v → Smaller u v ⊎ (u ≡ v)
+not-later-smaller u v e (inl h) = inl (earlier-smaller u v e h)
+not-later-smaller u v e (inr h) = inr h
 
 -- ---- one letter more
 length-snoc : (u : List ℕ) (b : ℕ) → length (u ++ (b ∷ [])) ≡ suc (length u)

@@ -7,7 +7,7 @@ use crate::search;
 use crate::word;
 ghost use mathlib.Core.Path.{_≡_};
 ghost use lib.ListN.{length};
-ghost use Rattle.compare_shortest.specs.Order.{Within, Answer};
+ghost use Rattle.compare_shortest.specs.Answer.{Within, Answer};
 ghost use Rattle.compare_shortest.specs.Graph.{HitLasso};
 ghost use Rattle.compare_shortest.specs.Sizes.{placeCount, stepCount};
 ghost use Rattle.compare_shortest.specs.Workspace.{Ready};

@@ -3,7 +3,7 @@ use automaton::Automaton;
 use lasso::first_lasso;
 ghost use lib.ListN.{length};
 ghost use Rattle.compare_shortest.specs.Difference.{Fit, Shows};
-ghost use Rattle.compare_shortest.specs.Order.{Within, Answer, Answered};
+ghost use Rattle.compare_shortest.specs.Answer.{Within, Answer, Answered};
 
 mod choice;
 mod closest;

@@ -23,7 +23,7 @@ pub struct Told {
     pub place: Place,
 }
 
-// Reads to the end, or until the text is refused, and decodes. A word that shows a difference is written into `prefix` and `cycle`.
+// Reads to the end, or until the text is refused, and decodes. The first word that shows a difference is written into `prefix` and `cycle`.
 pub fn read(
     fd: i32,
     name: &[u8],

@@ -70,7 +70,7 @@ module _ {a b : Automaton} {prefix prefix-after loop loop-after : List ℕ} {ans
             y = s .y;
             judged = judged-refused (inr (h, inr (g, inr (v, inr (p, inl (n, refl)))))) said (s .prefix-is, s .loop-is);
             empty = λ k e other. absurd (other (ap (λ (k : Code). k .number) (Option·some-inj .0 (sym e ∙ said))));
-            shown = λ k e is. s .witness;
+            shown = λ k e is. s .word;
             same = refused-same said;
           }
       go (inl (k, inr (h, inr (g, inr (v, inr (p, inr (s, t))))))) = absurd t

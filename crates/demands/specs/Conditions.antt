@@ -8,6 +8,7 @@ use mathlib.Core.Option.{Option, none, some}
 use Prim.Native.Nat.{ℕ, _≤_}
 use lib.ListN.{length, drop}
 use Rattle.meaning.specs.Agreement.{Agree}
+use Rattle.meaning.specs.FirstWord.{FirstWord}
 use Rattle.automaton.specs.declared.Automaton.{Automaton}
 use Rattle.refusals.specs.declared.Code.{Code}
 use Rattle.refusals.specs.Refused.{row}
@@ -16,7 +17,7 @@ use Rattle.automaton.specs.View.{view}
 use Rattle.encoding.specs.Clauses.{Assignment}
 use Rattle.compare.specs.declared.Comparison.{Comparison}
 use Rattle.compare.specs.declared.Comparison.the-variants as comparison
-use Rattle.compare.specs.Compared.{returned as comparison-said, Witness, prefixRoom, loopRoom}
+use Rattle.compare.specs.Compared.{returned as comparison-said, prefixRoom, loopRoom}
 use Rattle.hoa_text.specs.Reading.{reading, textLimit}
 use Rattle.hoa_text.specs.Tokens.{tokens}
 use Rattle.hoa_write.specs.Answer.{hoaRoom}
@@ -79,8 +80,8 @@ pub record JudgesComparison (a b : Automaton) (prefix prefix-after loop loop-aft
   pub y : List ℕ
   pub judged : Judged (to-compare a b (length prefix) (length loop) (length x) (length y)) (comparison-said answer) (Begins x prefix prefix-after × Begins y loop loop-after)
   pub empty : (c : Code) → comparison-said answer ≡ some c → c .number ≢ 12 → (x ≡ []) × (y ≡ [])
-  -- where 12 is said, one of the two accepts the word and the other rejects it, and it keeps document 01's bounds
-  pub shown : (c : Code) → comparison-said answer ≡ some c → c .number ≡ 12 → Witness a b x y
+  -- where 12 is said, it is the first word that shows that the two differ
+  pub shown : (c : Code) → comparison-said answer ≡ some c → c .number ≡ 12 → FirstWord (view a) (view b) x y
   pub same : answer ≡ comparison.Same → (prefix-after ≡ prefix) × (loop-after ≡ loop)
 
 -- ---- the header, the clause step, the clause line and the batch of lines
@@ -143,8 +144,8 @@ pub record JudgesDecoding (a : Automaton) (n m : ℕ) (r : Reader) (prefix prefi
       (Begins x prefix prefix-after × Begins y loop loop-after)
   pub lowest : ¬ AllStep a n m (stated-by a n m r) → LowestWithout a n m (stated-by a n m r) state letter
   pub empty : (c : Code) → decoder-said (answer .answer) ≡ some c → c .number ≢ 12 → (x ≡ []) × (y ≡ [])
-  -- where 12 is said, the word tells the table that is decoded and the reference apart
-  pub shown : (c : Code) → decoder-said (answer .answer) ≡ some c → c .number ≡ 12 → Witness (decodedValue a n m (stated-by a n m r)) a x y
+  -- where 12 is said, it is the first word that shows that the table that is decoded and the reference differ
+  pub shown : (c : Code) → decoder-said (answer .answer) ≡ some c → c .number ≡ 12 → FirstWord (view (decodedValue a n m (stated-by a n m r))) (view a) x y
   pub accepted : decoder-said (answer .answer) ≡ none
       → Answers (verdict-of a n m r) (decodedValue a n m (stated-by a n m r)) answer × (prefix-after ≡ prefix) × (loop-after ≡ loop)
 
@@ -173,6 +174,6 @@ pub record JudgesFinding (s : Search) (table : Automaton) (prefix prefix-after l
   pub judged : Judged (to-find s table (length prefix) (length loop) (length x) (length y)) (search-said (r .answer))
       ((r .search ≡ s) × Begins x prefix prefix-after × Begins y loop loop-after)
   pub empty : (c : Code) → search-said (r .answer) ≡ some c → c .number ≢ 12 → (x ≡ []) × (y ≡ [])
-  -- where 12 is said, the word tells the found table and the reference apart
-  pub shown : (c : Code) → search-said (r .answer) ≡ some c → c .number ≡ 12 → Witness table (s .reference) x y
+  -- where 12 is said, it is the first word that shows that the found table and the reference differ
+  pub shown : (c : Code) → search-said (r .answer) ≡ some c → c .number ≡ 12 → FirstWord (view table) (view (s .reference)) x y
   pub accepted : search-said (r .answer) ≡ none → (prefix-after ≡ prefix) × (loop-after ≡ loop)

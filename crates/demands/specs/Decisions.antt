@@ -19,7 +19,7 @@ use Rattle.refusals.specs.declared.Code.{Code}
 use Rattle.automaton.specs.Tests.{fits}
 use Rattle.automaton.specs.Value.{Valid}
 use Rattle.automaton.specs.View.{view}
-use Rattle.automaton.specs.ViewLaws.{view-formed}
+use Rattle.automaton.specs.ViewLaws.{view-comparable}
 use Rattle.automaton.specs.Meant.{fits-valid, valid-fits}
 use Rattle.clause_sizes.specs.Sizes.{Dimensioned}
 use Rattle.solver_text.specs.declared.Reader.{Reader}
@@ -122,4 +122,4 @@ in-range-decided r =
     (Dec·and (Dec·and (decLe (r .scan .letters) 13) (decLe (r .scan .value) 2000000009)) (truth-decided (all 5121 (λ i. leb (getD (r .named) i 0) 2))))
 
 pub agree-decided : (a b : Automaton) → Valid a → Valid b → a .propositions ≡ b .propositions → Dec (Agree (view a) (view b))
-agree-decided a b v w e = decide-agree (record { formed-A = view-formed v; formed-B = view-formed w; same-letters = rw e })
+agree-decided a b v w e = decide-agree (view-comparable v w e)

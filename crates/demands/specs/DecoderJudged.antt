@@ -209,7 +209,7 @@ module _ {prefix prefix-after loop loop-after : List ℕ} {answer : Decoded} {a 
               judged = judged-refused (inr (h, inr (g, inr (v, inr (z, inr (f, inr (u, inr (t, inl (j, refl))))))))) said (w .shown .prefix-is, w .shown .loop-is);
               lowest = low;
               empty = λ k e other. absurd (other (ap (λ (k : Code). k .number) (Option·some-inj .0 (sym e ∙ said))));
-              shown = λ k e is. w .shown .witness;
+              shown = λ k e is. w .shown .word;
               accepted = λ e. some-none (sym said ∙ e);
             }
     result (inl (k, inr (h, inr (g, inr (v, inr (z, inr (f, inr (u, inr (t, inr (j, e)))))))))) = absurd e

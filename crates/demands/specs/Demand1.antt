@@ -1,5 +1,5 @@
--- DEMAND 1, stated and proved. Bad input is refused with document 01's number and place, and what was lent or carried is as it was, but for 12's word, which
--- one of the two automata accepts and the other rejects; all else is accepted; every call ends. The last is proved of each function by its check: no function is
+-- DEMAND 1, stated and proved. Bad input is refused with document 01's number and place, and what was lent or carried is as it was, but for 12's word, the
+-- first that one of the two automata accepts and the other rejects; all else is accepted; every call ends. The last is proved of each function by its check: no function is
 -- accepted that does not return.
 --
 -- One field for each public function. It speaks of every outcome that the function's promise allows; `Conditions` has what each asks, in order.

@@ -1,20 +1,29 @@
--- DEMAND 2, stated and proved. "Same" exactly if two automata agree on every lasso word, and otherwise a word that one accepts and the other rejects; and a
--- written automaton reads back as itself.
+-- DEMAND 2, stated and proved. "Same" exactly if two automata agree on every lasso word, and otherwise the first word that one accepts and the other rejects;
+-- and a written automaton reads back as itself.
 use mathlib.Core.Path.{_≡_, refl, ap, _∙_}
-use mathlib.Core.Logic.{_≢_, _↔_}
+use mathlib.Core.Logic.{_≢_, _⊎_, inl, inr, _↔_}
 use mathlib.Core.List.{List}
-use Prim.Native.Nat.{ℕ, _^_, _≤_}
+use Prim.Native.Nat.{ℕ, suc, _*_, _≤_, _<_, max}
 use lib.ListN.{length, take, drop}
 use lib.Seq.{take-at}
 use Rattle.meaning.specs.Agreement.{Agree, AgreeEverywhere}
 use Rattle.meaning.specs.AllWords.{agree-everywhere}
+use Rattle.meaning.specs.FirstWord.{FirstWord}
+use Rattle.meaning.specs.FirstWordLaws.{agree-or-first, first-word-once}
 use Rattle.automaton.specs.declared.Automaton.{Automaton}
 use Rattle.automaton.specs.Value.{Valid}
 use Rattle.automaton.specs.View.{view}
-use Rattle.automaton.specs.ViewLaws.{view-formed}
+use Rattle.automaton.specs.ViewLaws.{view-comparable}
 use Rattle.compare.specs.declared.Comparison.{Comparison}
 use Rattle.compare.specs.declared.Comparison.the-variants.{Same}
 use Rattle.compare.specs.Compared.{Compared, Shown, returned as comparison-said, prefixRoom, loopRoom}
+use Rattle.compare.specs.Bounds.{word-bounds}
+use Rattle.solver_text.specs.declared.Reader.{Reader}
+use Rattle.decode.specs.declared.Decoded.{Decoded}
+use Rattle.decode.specs.Answers.{Decodes}
+use Rattle.search_rule.specs.declared.Search.{Search}
+use Rattle.search.specs.declared.Reply as search
+use Rattle.search.specs.Replies.{Found}
 use Rattle.hoa_text.specs.Reading.{read}
 use Rattle.hoa_text.specs.ReadBack.{read-back}
 use Rattle.hoa_text.specs.Written.{text}
@@ -25,6 +34,9 @@ use Rattle.hoa_write.specs.declared.Written.{Written}
 use Rattle.hoa_write.specs.declared.Written.the-variants.{Text}
 use Rattle.hoa_write.specs.Answer.{hoaRoom, Answered}
 use Rattle.demands.specs.ComparisonJudged.{comparison-judged}
+use Rattle.demands.specs.ComparisonOnce.{comparison-once}
+use Rattle.demands.specs.DecoderOnce.{decoding-once}
+use Rattle.demands.specs.SearchOnce.{finding-once}
 
 -- ---- the statement
 
@@ -42,12 +54,31 @@ pub record Compares (a b : Automaton) (prefix prefix-after loop loop-after : Lis
   pub same : (answer ≡ Same) ↔ (Admitted a b prefix loop × Agree (view a) (view b))
   -- that is, on every infinite word
   pub everywhere : (answer ≡ Same) ↔ (Admitted a b prefix loop × AgreeEverywhere (view a) (view b))
-  -- and otherwise 12: the buffers begin with a lasso word that one accepts and the other rejects, within document 01's bounds, and are else as they were
+  -- and otherwise 12: the buffers begin with the first lasso word that one accepts and the other rejects, and are else as they were
   pub differ : Admitted a b prefix loop → answer ≢ Same → Shown a b prefix prefix-after loop loop-after answer
+
+-- The word of document 02's request E5, for two automata that differ: there is one, and no other, and it keeps document 01's bounds: "With N the product of the
+-- two state counts, prefix ≤ N - 1 and loop ≤ (larger set count + 1)N."
+pub record TheWord (a b : Automaton) : Type 0 where
+  pub x : List ℕ
+  pub y : List ℕ
+  pub first : FirstWord (view a) (view b) x y
+  pub only : (u v : List ℕ) → FirstWord (view a) (view b) u v → (u ≡ x) × (v ≡ y)
+  pub prefix-lt : length x < a .states * b .states
+  pub loop-le : length y ≤ suc (max (a .sets) (b .sets)) * (a .states * b .states)
 
 pub record Demand2 : Type 0 where
   pub compares : (a b : Automaton) (prefix prefix-after loop loop-after : List ℕ) (answer : Comparison) → Compared a b prefix prefix-after loop loop-after answer
       → Compares a b prefix prefix-after loop loop-after answer
+  pub the-word : (a b : Automaton) → Valid a → Valid b → a .propositions ≡ b .propositions → ¬ Agree (view a) (view b) → TheWord a b
+  -- "The word is no longer left to the program": two outcomes of a call that the promise allows are the same, answer and buffers
+  pub compares-once : (a b : Automaton) (prefix p q loop l m : List ℕ) (x y : Comparison) → Compared a b prefix p loop l x → Compared a b prefix q loop m y
+      → (x ≡ y) × (p ≡ q) × (l ≡ m)
+  -- "and decoder and search pass the stronger promise on"
+  pub decodes-once : (prefix p q loop l m : List ℕ) (x y : Decoded) (a : Automaton) (n k : ℕ) (r : Reader) → Decodes prefix p loop l x a n k r → Decodes prefix q loop m y a n k r
+      → (x ≡ y) × (p ≡ q) × (l ≡ m)
+  pub finds-once : (s : Search) (table : Automaton) (prefix p q loop l m : List ℕ) (x y : search.Reply) → Found s table prefix p loop l x → Found s table prefix q loop m y
+      → (x ≡ y) × (p ≡ q) × (l ≡ m)
   -- what the writer leaves at the start of the buffer is a text that the reader reads as the same automaton: the same value
   pub reads-back : (a : Automaton) (out after : List ℕ) (answer : Written) → Answered a out after answer → Valid a → hoaRoom ≤ length out
       → (k : ℕ) × (answer ≡ Text k) × ((r : Reading) → r ≡ told (read (take k after)) → r ≡ record { answer = Read; automaton = a })
@@ -64,7 +95,7 @@ module _ {a b : Automaton} {prefix prefix-after loop loop-after : List ℕ} {ans
   says-same t s = c .same (t .prefix-room) (t .loop-room) (t .first) (t .second) (t .letters) s .0
 
   all-words : Admitted a b prefix loop → Agree (view a) (view b) ↔ AgreeEverywhere (view a) (view b)
-  all-words t = agree-everywhere (record { formed-A = view-formed (t .first); formed-B = view-formed (t .second); same-letters = ap (λ k. 2 ^ k) (t .letters) })
+  all-words t = agree-everywhere (view-comparable (t .first) (t .second) (t .letters))
 
   comparison : Compares a b prefix prefix-after loop loop-after answer
   comparison = record {
@@ -73,9 +104,22 @@ module _ {a b : Automaton} {prefix prefix-after loop loop-after : List ℕ} {ans
     differ = λ t n. c .differ (t .prefix-room) (t .loop-room) (t .first) (t .second) (t .letters) (λ s. n (says-same t s));
   }
 
+word-of : {a b : Automaton} → Valid a → Valid b → a .propositions ≡ b .propositions → ¬ Agree (view a) (view b) → TheWord a b
+word-of {a} {b} v w e n = go (agree-or-first (view-comparable v w e))
+  where
+    go : Agree (view a) (view b) ⊎ ((x : List ℕ) × (y : List ℕ) × FirstWord (view a) (view b) x y) → TheWord a b
+    go (inl s) = absurd (n s)
+    go (inr (x, y, F)) =
+        let (hx, hy) = word-bounds v w e F in
+        record { x = x; y = y; first = F; only = λ p q G. first-word-once G F; prefix-lt = hx; loop-le = hy }
+
 pub demand-2 : Demand2
 demand-2 = record {
   compares = λ a b prefix prefix-after loop loop-after answer c. comparison c;
+  the-word = λ a b v w e n. word-of v w e n;
+  compares-once = λ a b prefix p q loop l m x y c d. comparison-once c d;
+  decodes-once = λ prefix p q loop l m x y a n k r c d. decoding-once c d;
+  finds-once = λ s table prefix p q loop l m x y c d. finding-once c d;
   reads-back = λ a out after answer w v h.
       let (e, i, _) = w .written h v in
       (length (text a), e, λ r q. q ∙ ap told (ap (λ s. read (take (length (text a)) s)) i ∙ ap read (take-at (text a) (drop (length (text a)) out) (length (text a)) refl) ∙ read-back a v));

@@ -8,6 +8,9 @@ pub mod ClausesJudged
 pub mod SolverTextJudged
 pub mod DecoderJudged
 pub mod SearchJudged
+pub mod ComparisonOnce
+pub mod DecoderOnce
+pub mod SearchOnce
 pub mod Demand1
 pub mod Demand2
 pub mod Demand3

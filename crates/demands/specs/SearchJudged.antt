@@ -74,7 +74,7 @@ module _ {s : Search} {table : Automaton} {prefix prefix-after loop loop-after :
             said
             (holds (w .says), w .shown .prefix-is, w .shown .loop-is);
         empty = λ c e other. absurd (other (ap (λ (k : Code). k .number) (Option·some-inj .0 (sym e ∙ said))));
-        shown = λ c e is. w .shown .witness;
+        shown = λ c e is. w .shown .word;
         accepted = λ e. some-none (sym said ∙ e);
       }
   found-judged (state.taken m d a k g (e, p, l, c)) =

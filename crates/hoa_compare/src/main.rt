@@ -1,4 +1,4 @@
-// Says whether the automata of two files agree, and where they do not, prints a word that shows it.
+// Says whether the automata of two files agree, and where they do not, prints the first word that shows it.
 use automaton::Automaton;
 use compare::Comparison;
 use compare::compare;

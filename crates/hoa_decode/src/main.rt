@@ -75,7 +75,7 @@ fn print_answer(word: &[u8]) {
     print(word, word.len());
 }
 
-// After 12 comes the word that shows the difference; 8 speaks of the arguments.
+// After 12 comes the first word that shows the difference; 8 speaks of the arguments.
 fn print_refusal(
     x: Refusal,
     place: Place,

@@ -1,4 +1,4 @@
--- DEFINITIONS, 2 of 2: lasso words, and what it is for two automata to agree.
+-- DEFINITIONS, 2 of 3: lasso words, and what it is for two automata to agree.
 use mathlib.Core.Path.{_≡_}
 use mathlib.Core.Logic.{_≢_, _⊎_, ite}
 use mathlib.Core.List.{List, [], _∷_}

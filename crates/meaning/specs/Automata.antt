@@ -1,4 +1,4 @@
--- DEFINITIONS, 1 of 2: automata, runs and acceptance. They are Definition 1 of S. Baarir and A. Duret-Lutz, "SAT-based Minimization of
+-- DEFINITIONS, 1 of 3: automata, runs and acceptance. They are Definition 1 of S. Baarir and A. Duret-Lutz, "SAT-based Minimization of
 -- Deterministic ω-Automata" (LPAR 2015), whose words and letters stand in quotes.
 use mathlib.Core.Path.{_≡_}
 use mathlib.Core.Bool.{Bool, true, false, _&&_}

@@ -1,4 +1,4 @@
--- AGREEMENT IS DECIDED: two automata agree, or a lasso word within known lengths distinguishes them.
+-- AGREEMENT IS DECIDED: two automata agree, or a lasso word distinguishes them. And how short a prefix and a loop can be that do.
 use mathlib.Core.Path.{_≡_, refl, sym, _∙_}
 use mathlib.Core.Logic.{_≢_, _⊎_, inl, inr, ⊎-elim}
 use mathlib.Core.List.{List, [], _∷_, cons≢nil}
@@ -33,8 +33,8 @@ not-both f (inl D) = true≢false (sym (D .yes-A) ∙ f (D .some) (D .closed-A) 
 not-both f (inr D) = true≢false (sym (D .yes-A) ∙ sym (f (D .some) (D .closed-B) (D .closed-A)) ∙ D .no-B)
 
 -- each difference shows after the same prefix in a loop of at most m letters
-abbrev pub Shows : Aut → Aut → ℕ → Type 0
-Shows A B m = (x y : List ℕ) → Difference A B x y → (v : List ℕ) × Difference A B x v × (length v ≤ m)
+abbrev pub ShowsWithin : Aut → Aut → ℕ → Type 0
+ShowsWithin A B m = (x y : List ℕ) → Difference A B x y → (v : List ℕ) × Difference A B x v × (length v ≤ m)
 
 within-more : (A B : Aut) (k m : ℕ) → k ≤ m → LoopWithin A B k → LoopWithin A B m
 within-more A B k m h f x y D = let (v, E, g) = f x y D in (v, E, le-trans g h)
@@ -105,12 +105,12 @@ module _ {A B : Aut} (C : Comparable A B) where
   abbrev N : ℕ
   N = A .states * B .states
 
-  either-way : (m : ℕ) → LoopWithin A B m → LoopWithin B A m → Shows A B m
+  either-way : (m : ℕ) → LoopWithin A B m → LoopWithin B A m → ShowsWithin A B m
   either-way m f g x y (inl D) = let (v, E, h) = f x y D in (v, inl E, h)
   either-way m f g x y (inr D) = let (v, E, h) = g x y D in (v, inr E, h)
 
   -- for generalized Büchi acceptance, and for any
-  pub shows-every : EverySet A → EverySet B → Shows A B (suc (max (A .sets) (B .sets)) * (A .states * B .states))
+  pub shows-every : EverySet A → EverySet B → ShowsWithin A B (suc (max (A .sets) (B .sets)) * (A .states * B .states))
   shows-every ea eb =
       let a : suc (A .sets) ≤ suc (max (A .sets) (B .sets)) = omega arith in
       let b : suc (B .sets) ≤ suc (max (A .sets) (B .sets)) = omega arith in
@@ -118,60 +118,41 @@ module _ {A B : Aut} (C : Comparable A B) where
       (within-more A B _ _ (mul-le-mul-right N a) (short-loop-every C ea eb))
       (within-more B A _ _ (mul-le-mul-right N b) (rw (mul-comm (B .states) (A .states)) at (short-loop-every (flip C) eb ea)))
 
-  pub shows-any : Shows A B (suc (A .sets + B .sets) * (A .states * B .states))
+  pub shows-any : ShowsWithin A B (suc (A .sets + B .sets) * (A .states * B .states))
   shows-any = either-way _ (short-loop C) (rw (mul-comm (B .states) (A .states), add-comm (B .sets) (A .sets)) at (short-loop (flip C)))
 
-  pub short-difference : (m : ℕ) → Shows A B m → (x y : List ℕ) → Difference A B x y
-      → (u : List ℕ) × (v : List ℕ) × Difference A B u v × (length u < A .states * B .states) × (length v ≤ m)
-  short-difference m shows x y d =
-      let (u, e, hu) = first d in
-      let (v, f, hv) = shows u y e in
-      (u, v, f, hu, hv)
-    where
-      first : Difference A B x y → (u : List ℕ) × Difference A B u y × (length u < A .states * B .states)
-      first (inl D) = let (u, E, h) = short-prefix C x y D in (u, inl E, h)
-      first (inr D) = let (u, E, h) = short-prefix (flip C) x y D in (u, inr E, rw (mul-comm (B .states) (A .states)) at h)
+  -- the same loop shows a difference after a prefix of fewer than N letters
+  pub nearer : (x y : List ℕ) → Difference A B x y → (u : List ℕ) × Difference A B u y × (length u < A .states * B .states)
+  nearer x y (inl D) = let (u, E, h) = short-prefix C x y D in (u, inl E, h)
+  nearer x y (inr D) = let (u, E, h) = short-prefix (flip C) x y D in (u, inr E, rw (mul-comm (B .states) (A .states)) at h)
 
--- THE BOUNDED WITNESS: a word that distinguishes the two, with a prefix of fewer than N letters and a loop of at most m
-pub record Witness (A B : Aut) (m : ℕ) : Type 0 where
-  pub prefix : List ℕ
-  pub loop : List ℕ
-  pub apart : Distinguishes A B prefix loop
-  pub prefix-lt : length prefix < A .states * B .states
-  pub loop-le : length loop ≤ m
+  -- ---- agreement, or a difference
 
-module _ {A B : Aut} (C : Comparable A B) where
   -- where the verdicts are the same on the short words they are the same on all
-  module _ (m : ℕ) (shows : Shows A B m) where
-    short-enough : ((x : List ℕ) → Over (A .letters) x → length x ≤ A .states * B .states → (y : List ℕ) → Over (A .letters) y → length y ≤ m → CycleAgrees A B x y) → CyclesAgree A B
-    unfolding CyclesAgree
-    short-enough h x y ox oy ne ca cb = go (classify C x ox y oy)
-      where
-        go : CycleAgrees A B x y ⊎ Difference A B x y → verdict A x y ≡ verdict B x y
-        go (inl f) = f ne ca cb
-        go (inr d) =
-            let (u, v, e, hu, hv) = short-difference C m shows x y d in
-            let t = distinguishes C u v e in
-            absurd (not-both (h u (t .over-x) (omega arith) v (t .over-y) hv) e)
+  short-enough : (m : ℕ) → ShowsWithin A B m
+      → ((x : List ℕ) → Over (A .letters) x → length x ≤ N → (y : List ℕ) → Over (A .letters) y → length y ≤ m → CycleAgrees A B x y) → CyclesAgree A B
+  unfolding CyclesAgree
+  short-enough m within h x y ox oy ne ca cb = go (classify x ox y oy)
+    where
+      go : CycleAgrees A B x y ⊎ Difference A B x y → verdict A x y ≡ verdict B x y
+      go (inl f) = f ne ca cb
+      go (inr d) =
+          let (u, e, hu) = nearer x y d in
+          let (v, f, hv) = within u y e in
+          let t = distinguishes u v f in
+          absurd (not-both (h u (t .over-x) (omega arith) v (t .over-y) hv) f)
 
-    pub agree-or-witness : Agree A B ⊎ Witness A B m
-    agree-or-witness = go (search-words (A .letters) (A .states * B .states) (λ x ox. search-words (A .letters) m (λ y oy. classify C x ox y oy)))
-      where
-        go : ((x : List ℕ) → Over (A .letters) x → length x ≤ A .states * B .states → (y : List ℕ) → Over (A .letters) y → length y ≤ m → CycleAgrees A B x y)
-            ⊎ ((x : List ℕ) × Over (A .letters) x × ((y : List ℕ) × Over (A .letters) y × Difference A B x y))
-            → Agree A B ⊎ Witness A B m
-        go (inl h) = inl (cycles→agree C (short-enough h))
-        go (inr (x, ox, (y, oy, d))) =
-            let (u, v, e, hu, hv) = short-difference C m shows x y d in
-            inr (record { prefix = u; loop = v; apart = distinguishes C u v e; prefix-lt = hu; loop-le = hv })
+  pub agree-or-difference : Agree A B ⊎ ((x : List ℕ) × (y : List ℕ) × Difference A B x y)
+  agree-or-difference = go (search-words (A .letters) N (λ x ox. search-words (A .letters) m (λ y oy. classify x ox y oy)))
+    where
+      m : ℕ
+      m = suc (A .sets + B .sets) * N
 
-  -- generalized Büchi acceptance: the loop has at most (larger set count + 1) N letters
-  pub witness-every : EverySet A → EverySet B → Agree A B ⊎ Witness A B (suc (max (A .sets) (B .sets)) * (A .states * B .states))
-  witness-every ea eb = agree-or-witness _ (shows-every C ea eb)
-
-  -- any acceptance: at most (sum of the set counts + 1) N
-  pub witness-any : Agree A B ⊎ Witness A B (suc (A .sets + B .sets) * (A .states * B .states))
-  witness-any = agree-or-witness _ (shows-any C)
+      go : ((x : List ℕ) → Over (A .letters) x → length x ≤ N → (y : List ℕ) → Over (A .letters) y → length y ≤ m → CycleAgrees A B x y)
+          ⊎ ((x : List ℕ) × Over (A .letters) x × ((y : List ℕ) × Over (A .letters) y × Difference A B x y))
+          → Agree A B ⊎ ((x : List ℕ) × (y : List ℕ) × Difference A B x y)
+      go (inl h) = inl (cycles→agree C (short-enough m shows-any h))
+      go (inr (x, ox, (y, oy, d))) = inr (x, y, d)
 
 -- a word that distinguishes the two refutes agreement
 pub distinguished : {A B : Aut} {x y : List ℕ} → Distinguishes A B x y → ¬ Agree A B
@@ -186,13 +167,13 @@ distinguished {A} {B} {x} {y} t a = go (a x y (t .over-x) (t .over-y) (t .some))
 
 -- an automaton agrees with itself
 pub agree-self : {A : Aut} → WellFormed A → Agree A A
-agree-self F =
-    ⊎-elim (λ a. a) (λ w. absurd (⊎-elim (λ t. t .1 (t .0)) (λ t. t .0 (t .1)) (w .apart .apart)))
-    (witness-any (record { formed-A = F; formed-B = F; same-letters = refl }))
+agree-self {A} F =
+    let C : Comparable A A = record { formed-A = F; formed-B = F; same-letters = refl } in
+    ⊎-elim (λ a. a) (λ (x, y, d). absurd (⊎-elim (λ t. t .1 (t .0)) (λ t. t .0 (t .1)) (distinguishes C x y d .apart))) (agree-or-difference C)
 
 pub decide-agree : {A B : Aut} → Comparable A B → Dec (Agree A B)
-decide-agree {A} {B} C = go (witness-any C)
+decide-agree {A} {B} C = go (agree-or-difference C)
   where
-    go : Agree A B ⊎ Witness A B (suc (A .sets + B .sets) * (A .states * B .states)) → Dec (Agree A B)
+    go : Agree A B ⊎ ((x : List ℕ) × (y : List ℕ) × Difference A B x y) → Dec (Agree A B)
     go (inl a) = yes a
-    go (inr t) = no (distinguished (t .apart))
+    go (inr (x, y, d)) = no (distinguished (distinguishes C x y d))

@@ -1,5 +1,6 @@
 pub mod Automata
 pub mod Agreement
+pub mod FirstWord
 pub mod Tests
 pub mod TestLaws
 pub mod Counting
@@ -18,8 +19,11 @@ pub mod CycleLemma
 pub mod Tour
 pub mod SameMarks
 pub mod Difference
+pub mod WordOrder
+pub mod FirstWordExamples
 pub mod WordSearch
 pub mod Decision
+pub mod FirstWordLaws
 pub mod AllWords
 pub mod BitSet
 pub mod BitSetLaws

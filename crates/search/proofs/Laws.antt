@@ -1,13 +1,13 @@
 -- What the tests say, and what the comparison's answer makes of a found table.
 use mathlib.Core.Path.{_≡_, refl, ap, _∙_}
 use mathlib.Core.List.{List}
-use Prim.Native.Nat.{ℕ, _^_}
+use Prim.Native.Nat.{ℕ}
 use native.Mathlib.Decide.{ℕ-discrete}
-use Rattle.meaning.specs.Agreement.{Agree, Comparable}
+use Rattle.meaning.specs.Agreement.{Agree}
 use Rattle.meaning.specs.Decision.{decide-agree}
 use Rattle.automaton.specs.declared.Automaton.{Automaton}
 use Rattle.automaton.specs.View.{view}
-use Rattle.automaton.specs.ViewLaws.{view-formed}
+use Rattle.automaton.specs.ViewLaws.{view-comparable}
 use Rattle.compare.specs.declared.Comparison.{Comparison}
 use Rattle.compare.specs.Compared.{Compared, Room}
 use Rattle.search_rule.specs.declared.Search.{Search}
@@ -26,9 +26,6 @@ untouched e = (e, refl, refl, tells e)
 -- a table of the right size is answered by the comparison's promise
 module _ {s : Search} {table : Automaton} {p q l m : List ℕ} {x : Comparison} {r : Reply} (room : Room p l) (j : Admitted s table) (a : AskedFor s table)
     (k : Compared table (s .reference) p q l m x) (e : r ≡ judged s table x) where
-  comparable : table .propositions ≡ s .reference .propositions → Comparable (view table) (view (s .reference))
-  comparable h = record { formed-A = view-formed (j .valid); formed-B = view-formed (j .in-range .reference); same-letters = ap (λ n. 2 ^ n) h }
-
   by-agreement : table .propositions ≡ s .reference .propositions → Dec (Agree (view table) (view (s .reference))) → Found s table p q l m r
   by-agreement h (yes g) =
       let t = k .same (room .prefix-room) (room .loop-room) (j .valid) (j .in-range .reference) h g in
@@ -40,7 +37,7 @@ module _ {s : Search} {table : Automaton} {p q l m : List ℕ} {x : Comparison} 
       differ room j a h g (record { comparison = x; shown = w; says = is; number = tells is })
 
   by-letters : Dec (table .propositions ≡ s .reference .propositions) → Found s table p q l m r
-  by-letters (yes h) = by-agreement h (decide-agree (comparable h))
+  by-letters (yes h) = by-agreement h (decide-agree (view-comparable (j .valid) (j .in-range .reference) h))
   by-letters (no h) =
       let t = k .letters (room .prefix-room) (room .loop-room) (j .valid) (j .in-range .reference) h in
       let is = e ∙ ap (judged s table) (t .0) in

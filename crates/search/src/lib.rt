@@ -52,7 +52,7 @@ fn nothing() -> Search
     }
 }
 
-// What the question is answered: a table. Where it differs from the reference, a word that shows it is written into `prefix` and `cycle`.
+// What the question is answered: a table. Where it differs from the reference, the first word that shows it is written into `prefix` and `cycle`.
 pub fn found(search: Search, table: Automaton, prefix: &mut [u8], cycle: &mut [u8]) -> Reply
     ensures { λ r. ⌜ Found search table (now (prefix .entry)) (now (prefix .exit)) (now (cycle .entry)) (now (cycle .exit)) r ⌝ }
 {

@@ -3,7 +3,7 @@ use native.Mathlib.Omega.{arith}
 use borrow.Author.Needs.{needs}
 use Rattle.meaning.specs.TestLaws.{fails-not, passes-so}
 use Rattle.compare_shortest.specs.Difference.{Fit}
-use Rattle.compare_shortest.specs.Answers.{answered-unfit, answered-fit}
+use Rattle.compare_shortest.specs.AnswerLaws.{answered-unfit, answered-fit}
 use Rattle.compare_shortest.proofs.difference.Statement.{statement}
 use Rattle.compare_shortest.proofs.difference.Tie as tie
 

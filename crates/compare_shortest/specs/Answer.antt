@@ -1,25 +1,11 @@
--- DEFINITION, 2 of 2: which word is the first of several, and what a search for it answers.
+-- DEFINITION, 2 of 2: what a search for the first of several words answers.
 use mathlib.Core.Path.{_≡_}
-use mathlib.Core.Logic.{_⊎_}
-use mathlib.Core.List.{List, [], _∷_, _++_}
-use Prim.Native.Nat.{ℕ, _+_, _≤_, _<_}
+use mathlib.Core.List.{List, _++_}
+use Prim.Native.Nat.{ℕ, _≤_}
 use lib.ListN.{length, drop}
+use Rattle.meaning.specs.FirstWord.{Precedes}
 use Rattle.compare_shortest.specs.declared.Verdict.{Verdict}
 use Rattle.compare_shortest.specs.declared.Verdict.the-variants.{Same, Differ, Unfit}
-
--- "smaller at the first difference", of two words of one length
-abbrev pub Smaller : List ℕ → List ℕ → Type 0
-Smaller [] v = ⊥
-Smaller (a ∷ u) [] = ⊥
-Smaller (a ∷ u) (b ∷ v) = (a < b) ⊎ ((a ≡ b) × Smaller u v)
-
--- "the least prefix plus loop length"; "between equals the shorter prefix is given, then the one whose letters, prefix first, are smaller at the
--- first difference": the lasso word of x and y comes before that of u and v, or is the same
-abbrev pub Precedes : List ℕ → List ℕ → List ℕ → List ℕ → Type 0
-Precedes x y u v =
-    (length x + length y < length u + length v)
-    ⊎ ((length x + length y ≡ length u + length v)
-    × ((length x < length u) ⊎ ((length x ≡ length u) × (Smaller (x ++ y) (u ++ v) ⊎ (x ++ y ≡ u ++ v)))))
 
 -- Q holds of prefixes and loops that show a difference. Of those, the ones that fit buffers of p and l bytes:
 pub record Within (p l : ℕ) (Q : List ℕ → List ℕ → Type 0) (x y : List ℕ) : Type 0 where

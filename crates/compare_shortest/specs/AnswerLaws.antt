@@ -5,7 +5,7 @@ use Prim.Native.Nat.{ℕ}
 use lib.ListN.{length}
 use Rattle.compare_shortest.specs.declared.Verdict.{Verdict}
 use Rattle.compare_shortest.specs.declared.Verdict.the-variants.{Same, Differ, Unfit}
-use Rattle.compare_shortest.specs.Order.{Within, Answer, Answered}
+use Rattle.compare_shortest.specs.Answer.{Within, Answer, Answered}
 
 module _ {Fits : Type 0} {Q : List ℕ → List ℕ → Type 0} {prefix cycle : List ℕ} where
   pub answered-unfit : ¬ Fits → Answered Fits Q prefix prefix cycle cycle Unfit
