@@ -7,7 +7,8 @@ use native.Mathlib.Omega.{arith}
 use lib.ListN.{length, drop}
 use Rattle.meaning.specs.Agreement.{Agree}
 use Rattle.meaning.specs.FirstWord.{FirstWord}
-use Rattle.meaning.specs.FirstWordLaws.{shows-difference, agree-or-first}
+use Rattle.meaning.specs.FirstWordLaws.{shows-difference}
+use Rattle.meaning.specs.FirstWordExists.{agree-or-first}
 use Rattle.automaton.specs.declared.Automaton.{Automaton}
 use Rattle.refusals.specs.declared.Refusal.the-variants.{Outside, Differ}
 use Rattle.automaton.specs.Value.{Valid, letters}

@@ -9,7 +9,8 @@ use lib.Seq.{take-at}
 use Rattle.meaning.specs.Agreement.{Agree, AgreeEverywhere}
 use Rattle.meaning.specs.AllWords.{agree-everywhere}
 use Rattle.meaning.specs.FirstWord.{FirstWord}
-use Rattle.meaning.specs.FirstWordLaws.{agree-or-first, first-word-once}
+use Rattle.meaning.specs.FirstWordLaws.{first-word-once}
+use Rattle.meaning.specs.FirstWordExists.{agree-or-first}
 use Rattle.automaton.specs.declared.Automaton.{Automaton}
 use Rattle.automaton.specs.Value.{Valid}
 use Rattle.automaton.specs.View.{view}

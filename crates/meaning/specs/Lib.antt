@@ -20,10 +20,11 @@ pub mod Tour
 pub mod SameMarks
 pub mod Difference
 pub mod WordOrder
-pub mod FirstWordExamples
 pub mod WordSearch
 pub mod Decision
 pub mod FirstWordLaws
+pub mod FirstWordExists
+pub mod FirstWordExamples
 pub mod AllWords
 pub mod BitSet
 pub mod BitSetLaws
