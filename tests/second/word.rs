@@ -25,6 +25,12 @@ impl Word {
     pub fn lines(&self) -> String {
         format!("prefix{}\nloop{}\n", spaced(&self.prefix), spaced(&self.cycle))
     }
+
+    /// What words are chosen by: the smallest key is the first.
+    fn key(&self) -> (usize, usize, Vec<u8>) {
+        let letters = [&self.prefix[..], &self.cycle[..]].concat();
+        (letters.len(), self.prefix.len(), letters)
+    }
 }
 
 fn spaced(letters: &[u8]) -> String {
@@ -50,14 +56,6 @@ pub fn first_word(product: &Product) -> Option<Word> {
         }
     }
     best
-}
-
-impl Word {
-    /// What words are chosen by: the smallest key is the first.
-    fn key(&self) -> (usize, usize, Vec<u8>) {
-        let letters = [&self.prefix[..], &self.cycle[..]].concat();
-        (letters.len(), self.prefix.len(), letters)
-    }
 }
 
 /// A product, and the transitions that lead to each pair.

@@ -6,10 +6,10 @@ use mathlib.Core.List.{List}
 use Prim.Native.Nat.{ℕ, suc, _*_, _≤_, _<_, max}
 use lib.ListN.{length, take, drop}
 use lib.Seq.{take-at}
-use Rattle.meaning.specs.Agreement.{Agree, AgreeEverywhere}
+use Rattle.meaning.specs.Agreement.{Agree, AgreeEverywhere, Comparable}
 use Rattle.meaning.specs.AllWords.{agree-everywhere}
 use Rattle.meaning.specs.FirstWord.{FirstWord}
-use Rattle.meaning.specs.FirstWordLaws.{first-word-once}
+use Rattle.meaning.specs.FirstWordLaws.{first-word-once, first-word-flip}
 use Rattle.meaning.specs.FirstWordExists.{agree-or-first}
 use Rattle.automaton.specs.declared.Automaton.{Automaton}
 use Rattle.automaton.specs.Value.{Valid}
@@ -58,13 +58,14 @@ pub record Compares (a b : Automaton) (prefix prefix-after loop loop-after : Lis
   -- and otherwise 12: the buffers begin with the first lasso word that one accepts and the other rejects, and are else as they were
   pub differ : Admitted a b prefix loop → answer ≢ Same → Shown a b prefix prefix-after loop loop-after answer
 
--- The word of document 02's request E5, for two automata that differ: there is one, and no other, and it keeps document 01's bounds: "With N the product of the
--- two state counts, prefix ≤ N - 1 and loop ≤ (larger set count + 1)N."
+-- The word of document 02's request E5, for two automata that differ: there is one, and no other, in whichever order the two are named; and it keeps document
+-- 01's bounds: "With N the product of the two state counts, prefix ≤ N - 1 and loop ≤ (larger set count + 1)N."
 pub record TheWord (a b : Automaton) : Type 0 where
   pub x : List ℕ
   pub y : List ℕ
   pub first : FirstWord (view a) (view b) x y
   pub only : (u v : List ℕ) → FirstWord (view a) (view b) u v → (u ≡ x) × (v ≡ y)
+  pub either-order : FirstWord (view b) (view a) x y
   pub prefix-lt : length x < a .states * b .states
   pub loop-le : length y ≤ suc (max (a .sets) (b .sets)) * (a .states * b .states)
 
@@ -106,13 +107,16 @@ module _ {a b : Automaton} {prefix prefix-after loop loop-after : List ℕ} {ans
   }
 
 word-of : {a b : Automaton} → Valid a → Valid b → a .propositions ≡ b .propositions → ¬ Agree (view a) (view b) → TheWord a b
-word-of {a} {b} v w e n = go (agree-or-first (view-comparable v w e))
+word-of {a} {b} v w e n = go (agree-or-first C)
   where
+    C : Comparable (view a) (view b)
+    C = view-comparable v w e
+
     go : Agree (view a) (view b) ⊎ ((x : List ℕ) × (y : List ℕ) × FirstWord (view a) (view b) x y) → TheWord a b
     go (inl s) = absurd (n s)
     go (inr (x, y, F)) =
         let (hx, hy) = word-bounds v w e F in
-        record { x = x; y = y; first = F; only = λ p q G. first-word-once G F; prefix-lt = hx; loop-le = hy }
+        record { x = x; y = y; first = F; only = λ p q G. first-word-once G F; either-order = first-word-flip (C .same-letters) F; prefix-lt = hx; loop-le = hy }
 
 pub demand-2 : Demand2
 demand-2 = record {

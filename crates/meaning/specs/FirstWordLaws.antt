@@ -9,7 +9,7 @@ use native.Mathlib.Omega.{arith}
 use lib.ListN.{length}
 use Rattle.meaning.specs.Walk.{run}
 use Rattle.meaning.specs.Automata.{Aut, state}
-use Rattle.meaning.specs.Agreement.{Comparable, lasso}
+use Rattle.meaning.specs.Agreement.{Comparable, Over, lasso}
 use Rattle.meaning.specs.FirstWord.{BroughtBack, Shows, Precedes, FirstWord}
 use Rattle.meaning.specs.LassoWord.{Reads, lasso-reads}
 use Rattle.meaning.specs.Run.{after, state-run}
@@ -38,6 +38,25 @@ module _ (A : Aut) (x y : List ℕ) where
 
 pub first-word-once : {A B : Aut} {x y u v : List ℕ} → FirstWord A B x y → FirstWord A B u v → (x ≡ u) × (y ≡ v)
 first-word-once {x = x} {y} {u} {v} F G = precedes-once x y u v (F .first u v (G .shows)) (G .first x y (F .shows))
+
+-- ---- whichever of the two automata is named first
+
+shows-flip : {A B : Aut} → A .letters ≡ B .letters → (x y : List ℕ) → Shows A B x y → Shows B A x y
+shows-flip e x y S =
+    let t = S .apart in
+    record {
+      apart = record {
+        over-x = subst (λ n. Over n x) e (t .over-x);
+        over-y = subst (λ n. Over n y) e (t .over-y);
+        some = t .some;
+        apart = ⊎-elim (λ (a, b). inr (b, a)) (λ (a, b). inl (b, a)) (t .apart);
+      };
+      back-A = S .back-B;
+      back-B = S .back-A;
+    }
+
+pub first-word-flip : {A B : Aut} → A .letters ≡ B .letters → {x y : List ℕ} → FirstWord A B x y → FirstWord B A x y
+first-word-flip e {x} {y} F = record { shows = shows-flip e x y (F .shows); first = λ u v S. F .first u v (shows-flip (sym e) u v S) }
 
 module _ {A B : Aut} (C : Comparable A B) where
   -- ---- the words of which one is given are the differences
