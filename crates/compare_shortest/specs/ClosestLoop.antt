@@ -6,7 +6,7 @@ use Prim.Native.Nat.{ℕ, _/_, _≤_, _<_}
 use native.Mathlib.Decide.{decLt, ℕ-discrete}
 use native.Mathlib.Omega.{arith}
 use lib.ListN.{length, drop}
-use Rattle.compare_shortest.specs.WordOrder.{NotLater, earlier-trans, not-later-length}
+use Rattle.compare_shortest.specs.SearchOrder.{NotLater, earlier-trans, not-later-length}
 use Rattle.compare_shortest.specs.SearchWords.{back, word, length-word, depth-le, word-over, word-run, words-rise}
 use Rattle.compare_shortest.specs.SearchComplete.{Reached, Beyond, reached}
 use Rattle.compare_shortest.specs.ReadBack.{Chain, chain}

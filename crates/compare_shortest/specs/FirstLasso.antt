@@ -10,7 +10,7 @@ use Rattle.compare_shortest.specs.declared.Verdict.the-variants.{Same, D
 use Rattle.meaning.specs.FirstWord.{Smaller, Precedes}
 use Rattle.meaning.specs.WordOrder.{precedes-by}
 use Rattle.compare_shortest.specs.Answer.{Within, Answer}
-use Rattle.compare_shortest.specs.WordOrder.{NotLater, earlier-trans, not-later-length, earlier-smaller, not-later-smaller}
+use Rattle.compare_shortest.specs.SearchOrder.{NotLater, earlier-trans, not-later-length, earlier-smaller, not-later-smaller}
 use Rattle.compare_shortest.specs.SearchWords.{back, word, length-word, word-over, word-run, words-rise, depths-rise}
 use Rattle.compare_shortest.specs.SearchComplete.{Reached, Beyond, reached}
 use Rattle.compare_shortest.specs.ReadBack.{Chain, chain}

@@ -3,7 +3,7 @@ pub mod Answer
 pub mod AnswerLaws
 pub mod Met
 pub mod Union
-pub mod WordOrder
+pub mod SearchOrder
 pub mod Search
 pub mod SearchWords
 pub mod SearchComplete

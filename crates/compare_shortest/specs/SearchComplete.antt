@@ -10,7 +10,7 @@ use lib.ListN.{length, length-append}
 use Rattle.meaning.specs.Walk.{run}
 use Rattle.meaning.specs.WalkLaws.{run-append}
 use Rattle.meaning.specs.Agreement.{Over}
-use Rattle.compare_shortest.specs.WordOrder.{Earlier, NotLater, earlier-trans, not-later-length, not-later-snoc, prefix-not-later}
+use Rattle.compare_shortest.specs.SearchOrder.{Earlier, NotLater, earlier-trans, not-later-length, not-later-snoc, prefix-not-later}
 use Rattle.compare_shortest.specs.Search.{Places, parent, letter, Followed, Search}
 use Rattle.compare_shortest.specs.SearchWords.{word, length-word, word-root, word-child, depths-rise, edges-rise}
 

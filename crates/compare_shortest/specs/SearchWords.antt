@@ -11,7 +11,7 @@ use Rattle.meaning.specs.Walk.{run}
 use Rattle.meaning.specs.WalkLaws.{run-append}
 use Rattle.meaning.specs.Agreement.{Over}
 use Rattle.meaning.specs.LassoWord.{over-append}
-use Rattle.compare_shortest.specs.WordOrder.{Earlier, earlier-length, earlier-snoc, last-earlier}
+use Rattle.compare_shortest.specs.SearchOrder.{Earlier, earlier-length, earlier-snoc, last-earlier}
 use Rattle.compare_shortest.specs.Search.{Places, parent, letter, Search}
 
 -- the last d letters of the way to the place k, as they are read back from edge to edge

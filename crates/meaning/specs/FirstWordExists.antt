@@ -36,7 +36,7 @@ module _ {A B : Aut} (C : Comparable A B) where
           ⊎ SmallestHas L p (λ x. AllHave L q (CycleAgrees A B x)) (λ x. SmallestHas L q (CycleAgrees A B x) (Difference A B x))
           → NoneOf p q ⊎ FirstOf p q
       go (inl a) = inl (λ u v hu hv d. not-both (a u (over u v d .0) hu v (over u v d .1) hv) d)
-      go (inr (x, hx, (y, hy, d, first-y), first-x)) = inr (x, y, hx, hy, d, first)
+      go (inr (x, ox, hx, (y, oy, hy, d, first-y), first-x)) = inr (x, y, hx, hy, d, first)
         where
           first : (u v : List ℕ) → length u ≡ p → length v ≡ q → Difference A B u v → Precedes x y u v
           first u v hu hv e = precedes-by x y u v (omega arith) (λ t. omega arith) (λ s t. prefix (first-x u (over u v e .0) hu))

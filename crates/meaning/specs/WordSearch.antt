@@ -1,9 +1,9 @@
--- A search through all the words of at most n letters, and for the smallest of n letters.
+-- A search for the smallest word of n letters, and through all the words of at most n letters.
 use mathlib.Core.Path.{_≡_, refl, sym, ap₂, subst}
 use mathlib.Core.Logic.{_⊎_, inl, inr}
 use mathlib.Core.List.{List, [], _∷_}
 use Prim.Native.Nat.{ℕ, zero, suc, _≤_, _<_}
-use native.Mathlib.Nat.{not-suc-le-zero, le-of-suc-le-suc}
+use native.Mathlib.Nat.{not-suc-le-zero}
 use native.Mathlib.Decide.{ℕ-discrete, decLt}
 use native.Mathlib.Omega.{arith}
 use lib.ListN.{length}
@@ -26,32 +26,6 @@ search-below (suc n) {X} {Y} f = go (search-below n (λ l h. f l (omega arith)))
     go (inl a) (inr y) = inr (n, omega arith, y, a)
     go (inl a) (inl x) = inl (λ l h. last a x l h (ℕ-discrete l n))
 
--- the same for the words of at most n letters below k
-pub search-words : (k n : ℕ) {X Y : List ℕ → Type 0} → ((w : List ℕ) → Over k w → X w ⊎ Y w)
-    → ((w : List ℕ) → Over k w → length w ≤ n → X w) ⊎ ((w : List ℕ) × Over k w × Y w)
-search-words k zero {X} {Y} f = go (f [] tt)
-  where
-    go : X [] ⊎ Y [] → ((w : List ℕ) → Over k w → length w ≤ 0 → X w) ⊎ ((w : List ℕ) × Over k w × Y w)
-    go (inr y) = inr ([], tt, y)
-    go (inl x) = inl only
-      where
-        only : (w : List ℕ) → Over k w → length w ≤ 0 → X w
-        only [] o h = x
-        only (l ∷ w) o h = absurd (not-suc-le-zero h)
-search-words k (suc n) {X} {Y} f = go (f [] tt) (search-below k (λ l h. search-words k n {X = λ w. X (l ∷ w)} {Y = λ w. Y (l ∷ w)} (λ w o. f (l ∷ w) (h, o))))
-  where
-    go : X [] ⊎ Y []
-        → ((l : ℕ) → l < k → (w : List ℕ) → Over k w → length w ≤ n → X (l ∷ w))
-        ⊎ ((l : ℕ) × (l < k) × ((w : List ℕ) × Over k w × Y (l ∷ w)) × ((j : ℕ) → j < l → (w : List ℕ) → Over k w → length w ≤ n → X (j ∷ w)))
-        → ((w : List ℕ) → Over k w → length w ≤ suc n → X w) ⊎ ((w : List ℕ) × Over k w × Y w)
-    go (inr y) r = inr ([], tt, y)
-    go (inl x) (inr (l, h, (w, o, y), below)) = inr (l ∷ w, (h, o), y)
-    go (inl x) (inl a) = inl each
-      where
-        each : (w : List ℕ) → Over k w → length w ≤ suc n → X w
-        each [] o h = x
-        each (l ∷ w) o h = a l (o .0) w (o .1) (le-of-suc-le-suc h)
-
 -- ---- the words of n letters below k
 
 abbrev pub AllHave : ℕ → ℕ → (List ℕ → Type 0) → Type 0
@@ -59,7 +33,7 @@ AllHave k n X = (w : List ℕ) → Over k w → length w ≡ n → X w
 
 -- one has Y, and each that is smaller has X
 abbrev pub SmallestHas : ℕ → ℕ → (List ℕ → Type 0) → (List ℕ → Type 0) → Type 0
-SmallestHas k n X Y = (w : List ℕ) × (length w ≡ n) × Y w × ((u : List ℕ) → Over k u → length u ≡ n → X u ⊎ (Smaller w u ⊎ (w ≡ u)))
+SmallestHas k n X Y = (w : List ℕ) × Over k w × (length w ≡ n) × Y w × ((u : List ℕ) → Over k u → length u ≡ n → X u ⊎ (Smaller w u ⊎ (w ≡ u)))
 
 pub search-smallest : (k n : ℕ) {X Y : List ℕ → Type 0} → ((w : List ℕ) → Over k w → X w ⊎ Y w) → AllHave k n X ⊎ SmallestHas k n X Y
 search-smallest k zero {X} {Y} f = go (f [] tt)
@@ -70,7 +44,7 @@ search-smallest k zero {X} {Y} f = go (f [] tt)
         none : (w : List ℕ) → Over k w → length w ≡ 0 → X w
         none [] o h = x
         none (l ∷ w) o h = absurd (omega arith)
-    go (inr y) = inr ([], refl, y, only)
+    go (inr y) = inr ([], tt, refl, y, only)
       where
         only : (u : List ℕ) → Over k u → length u ≡ 0 → X u ⊎ (Smaller [] u ⊎ ([] ≡ u))
         only [] o h = inr (inr refl)
@@ -85,7 +59,7 @@ search-smallest k (suc n) {X} {Y} f = go (search-below k (λ l h. search-smalles
         none : (w : List ℕ) → Over k w → length w ≡ suc n → X w
         none [] o h = absurd (omega arith)
         none (l ∷ w) o h = a l (o .0) w (o .1) (omega arith)
-    go (inr (l, h, (w, e, y, smallest), below)) = inr (l ∷ w, omega arith, y, first)
+    go (inr (l, h, (w, o, e, y, smallest), below)) = inr (l ∷ w, (h, o), omega arith, y, first)
       where
         same : (j : ℕ) (u : List ℕ) → j ≡ l → X (l ∷ u) ⊎ (Smaller w u ⊎ (w ≡ u)) → X (j ∷ u) ⊎ (Smaller (l ∷ w) (j ∷ u) ⊎ (l ∷ w ≡ j ∷ u))
         same j u p (inl x) = inl (subst (λ i. X (i ∷ u)) (sym p) x)
@@ -100,3 +74,14 @@ search-smallest k (suc n) {X} {Y} f = go (search-below k (λ l h. search-smalles
             by-letter (yes p) d = inl (below j p u (o .1) (omega arith))
             by-letter (no p) (yes q) = inr (inl (inl q))
             by-letter (no p) (no q) = same j u (omega arith) (smallest u (o .1) (omega arith))
+
+-- ---- the words of at most n letters below k: all have X, or one has Y
+
+pub search-words : (k n : ℕ) {X Y : List ℕ → Type 0} → ((w : List ℕ) → Over k w → X w ⊎ Y w)
+    → ((w : List ℕ) → Over k w → length w ≤ n → X w) ⊎ ((w : List ℕ) × Over k w × Y w)
+search-words k n {X} {Y} f = go (search-below (suc n) (λ i h. search-smallest k i f))
+  where
+    go : ((i : ℕ) → i < suc n → AllHave k i X) ⊎ ((i : ℕ) × (i < suc n) × SmallestHas k i X Y × ((j : ℕ) → j < i → AllHave k j X))
+        → ((w : List ℕ) → Over k w → length w ≤ n → X w) ⊎ ((w : List ℕ) × Over k w × Y w)
+    go (inl a) = inl (λ w o h. a (length w) (omega arith) w o refl)
+    go (inr (i, h, (w, o, e, y, smallest), below)) = inr (w, o, y)
