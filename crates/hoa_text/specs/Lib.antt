@@ -31,3 +31,4 @@ pub mod WrittenHeader
 pub mod WrittenLength
 pub mod ReadBack
 pub mod Examples
+pub mod BodyExamples

@@ -28,7 +28,7 @@ next-size p (broken q o) e = absurd (true≢false (sym e))
 abbrev pub Leaves : {A : Type 0} → ℕ → Parsed A → Type 0
 Leaves n x = Every (λ y. size (y .1) < n) x
 
-leaves-more : {A : Type 0} (m n : ℕ) (x : Parsed A) → m ≤ n → Leaves m x → Leaves n x
+pub leaves-more : {A : Type 0} (m n : ℕ) (x : Parsed A) → m ≤ n → Leaves m x → Leaves n x
 leaves-more m n (gives y) h g = omega arith
 leaves-more m n (refuses r) h g = tt
 

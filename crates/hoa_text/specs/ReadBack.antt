@@ -33,7 +33,7 @@ use Rattle.hoa_text.specs.First.{none-first}
 module _ (a : Automaton) (v : Valid a) where
   -- the table that is read back
   abbrev full : Table
-  full = filled a (a .states) (a .states) 0 (before (a .states))
+  full = filled a (a .states) (a .states) 0 (before a (a .states))
 
   edge-full : (q l : ℕ) → q < a .states → l < letters (headerOf a) → full .edge q l ≡ some (record { destination = destination a q l; marks = markSet a q l })
   edge-full q l hq hl = rw (lt-ltb l (letters (headerOf a)) hl, lt-ltb q (a .states) hq)
