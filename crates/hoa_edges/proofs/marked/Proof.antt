@@ -4,7 +4,7 @@ use borrow.Author.Needs.{needs}
 use denote.Ref.{now}
 use Rattle.hoa_text.specs.Body.{marked}
 use Rattle.hoa_text.specs.Tokens.{left}
-use Rattle.hoa_edges.specs.Marks.{MarksAnswer}
+use Rattle.hoa_marks.specs.Answers.{MarksAnswer}
 use Rattle.hoa_edges.proofs.EdgeLaws.{marks-refused, marks-read}
 use Rattle.hoa_edges.proofs.marked.Statement.{statement}
 use Rattle.hoa_edges.proofs.marked.Tie as tie
@@ -26,7 +26,7 @@ returns c =
 returns-2 : tie.Need-returns-2
 returns-2 c =
     let a = c .before .before .before .before .before .args in
-    marks-read _ _ _ _ _ _ _ (subst (MarksAnswer (now (a .text)) (a .at) (a .sets) (marked (a .sets) (left (now (a .text)) (a .at)))) (c .before .marks2 .given .1) (c .before .before .before .marks .ensures))
+    marks-read _ _ _ _ _ _ _ (c .before .before .before .before .before .pre) (subst (MarksAnswer (now (a .text)) (a .at) (a .sets) (marked (a .sets) (left (now (a .text)) (a .at)))) (c .before .marks2 .given .1) (c .before .before .before .marks .ensures))
 
 pub marked-spec : {M : Type 1} → statement M
 marked-spec =

@@ -1,14 +1,14 @@
 -- `marks` meets its contract.
 use borrow.Author.Needs.{needs}
-use Rattle.hoa_edges.proofs.EdgeLaws.{no-marks, some-marks}
-use Rattle.hoa_edges.proofs.marks.Statement.{statement}
-use Rattle.hoa_edges.proofs.marks.Tie as tie
+use Rattle.hoa_marks.proofs.MarkLaws.{no-marks, some-marks}
+use Rattle.hoa_marks.proofs.marks.Statement.{statement}
+use Rattle.hoa_marks.proofs.marks.Tie as tie
 
 behind-requires : tie.Need-behind-requires
 behind-requires c κs = search needs
 
 returns : tie.Need-returns
-returns c = no-marks _ _ _ _ (c .before .behind .ensures) (c .if1 .taken) (c .before .before .before .pre)
+returns c = no-marks _ _ _ _ (c .before .behind .ensures) (c .if1 .taken)
 
 listed-requires : tie.Need-listed-requires
 listed-requires c κs = search needs

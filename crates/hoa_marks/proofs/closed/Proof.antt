@@ -1,8 +1,8 @@
 -- `closed` meets its contract.
 use borrow.Author.Needs.{needs}
-use Rattle.hoa_edges.proofs.EdgeLaws.{closed-read, closed-refused}
-use Rattle.hoa_edges.proofs.closed.Statement.{statement}
-use Rattle.hoa_edges.proofs.closed.Tie as tie
+use Rattle.hoa_marks.proofs.MarkLaws.{closed-read, closed-refused}
+use Rattle.hoa_marks.proofs.closed.Statement.{statement}
+use Rattle.hoa_marks.proofs.closed.Tie as tie
 
 behind-requires : tie.Need-behind-requires
 behind-requires c κs = search needs

@@ -6,9 +6,9 @@ use borrow.Author.Needs.{needs}
 use lib.ListN.{length}
 use Rattle.hoa_tokens.specs.Answers.{Reads}
 use Rattle.hoa_tokens.proofs.Due.{number-missing}
-use Rattle.hoa_edges.proofs.EdgeLaws.{Listed, mark-undeclared, mark-listed, marks-closed}
-use Rattle.hoa_edges.proofs.listed.Statement.{statement}
-use Rattle.hoa_edges.proofs.listed.Tie as tie
+use Rattle.hoa_marks.proofs.MarkLaws.{Listed, mark-undeclared, mark-listed, marks-closed}
+use Rattle.hoa_marks.proofs.listed.Statement.{statement}
+use Rattle.hoa_marks.proofs.listed.Tie as tie
 
 abbrev Inv-loop : tie.InvT-loop
 Inv-loop text at sets set₀ i₀ set i = Listed text at sets set i
@@ -17,7 +17,7 @@ abbrev μ-loop : tie.MeasureT-loop
 μ-loop text at sets set₀ i₀ set i = length text - i
 
 loop-holds : tie.Need-loop-holds Inv-loop μ-loop
-loop-holds c = record { is = λ l. refl; from = omega arith }
+loop-holds c = record { is = λ l. refl; from = omega arith; to = λ l. l }
 
 next-token-requires : tie.Need-next-token-requires Inv-loop μ-loop
 next-token-requires c κs = search needs
