@@ -20,12 +20,13 @@ use Rattle.automaton.specs.Value.{rows}
 use Rattle.automaton.specs.Rows.{rows-length}
 use Rattle.bits.specs.SingleSets.{has-single}
 use Rattle.hoa_text.specs.Basics.{option, isSome}
-use Rattle.hoa_text.specs.Labels.{Formula, holds}
 use Rattle.hoa_text.specs.Header.{Header}
-use Rattle.hoa_text.specs.Body.{Edge, letters, withEdge}
+use Rattle.hoa_text.specs.Body.{Edge, letters, begun, withEdge}
 use Rattle.hoa_text.specs.Body as Hoa
-use Rattle.hoa_labels.specs.Answers.{Satisfy}
+use Rattle.hoa_labels.specs.Answers.{Members}
+use Rattle.hoa_body.specs.declared.Current.{Current}
 use Rattle.hoa_body.specs.declared.Table.{Table}
+use Rattle.hoa_body.specs.Answers.{currentOf}
 use Rattle.hoa_body.specs.Tables.{HoldsNone, HoldsState, HoldsEdge, Filled}
 
 -- ---- cells
@@ -81,21 +82,27 @@ module _ (q members v : ℕ) where
 
 -- ---- states
 
-pub holds-none : (a : Automaton) → HoldsNone a (record { named = 0; given = replicate 16 0; current = 16; destinations = a .destinations; marks = a .marks })
+pub holds-none : (a : Automaton) → HoldsNone a (record { named = 0; given = replicate 16 0; current = record { state = 16; shared = 0; labelled = false; listed = 0 }; destinations = a .destinations; marks = a .marks })
 holds-none a h o = record {
   named = λ q g. has-zero q;
   given = λ q l g k. ap (λ s. has s l) (getD-replicate 16 q 0 0 g) ∙ has-zero l;
-  current = refl;
+  current-is = refl;
   destinations = ap (λ a. a .destinations) o;
   marks = ap (λ a. a .marks) o;
 }
 
-pub holds-state : (u : Table) (p s : ℕ) → p < 16 → s ≡ 2 ^ p
-    → HoldsState u p (record { named = bitOr s (u .named); given = u .given; current = p; destinations = u .destinations; marks = u .marks })
-holds-state u p s l e h t g = record {
+pub holds-state : (u : Table) (p m s : ℕ) → p < 16 → s ≡ 2 ^ p
+    → HoldsState u p m (record {
+      named = bitOr s (u .named);
+      given = u .given;
+      current = record { state = p; shared = m; labelled = false; listed = 0 };
+      destinations = u .destinations;
+      marks = u .marks;
+    })
+holds-state u p m s l e h t g = record {
   named = λ q k. has-or s (u .named) q ∙ ap₂ (λ a b. a || b) (ap (λ n. has n q) e ∙ has-single p q) (g .named q k);
   given = g .given;
-  current = sym (ap (λ b. cond b (some p) none) (lt-ltb p 16 l));
+  current-is = sym (ap (λ b. cond b (some (begun p m)) none) (lt-ltb p 16 l));
   destinations = g .destinations;
   marks = g .marks;
 }
@@ -110,59 +117,63 @@ some-cond : {A : Type 0} (b : Bool) (a : A) (x : Option A) → isSome (cond b (s
 some-cond true a x = refl
 some-cond false a x = refl
 
-module _ (h : Header) (t : Hoa.Table) (f : Formula) (q members d m n : ℕ) (hq : q < 16) (hn : n ≤ 16) (count : letters h ≡ n) (sat : Satisfy members f) where
-  abbrev after : Hoa.Table
-  after = withEdge h t q f d m
+module _ (h : Header) (t : Hoa.Table) (f : ℕ → Bool) (c : Current) (members d m n : ℕ) (hq : c .state < 16) (hn : n ≤ 16) (count : letters h ≡ n)
+    (sat : Members members f) where
+  abbrev q : ℕ
+  q = c .state
 
-  asked : (k : ℕ) → (eqb (k / 16) q && (ltb (k % 16) n && has members (k % 16))) ≡ (eqb (k / 16) q && (ltb (k % 16) (letters h) && holds f (k % 16)))
+  abbrev new : Edge
+  new = record { destination = d; marks = bitOr (c .shared) m }
+
+  abbrev after : Hoa.Table
+  after = withEdge h t (currentOf c) f d m
+
+  asked : (k : ℕ) → (eqb (k / 16) q && (ltb (k % 16) n && has members (k % 16))) ≡ (eqb (k / 16) q && (ltb (k % 16) (letters h) && f (k % 16)))
   asked k =
       ap₂ (λ c b. eqb (k / 16) q && (ltb (k % 16) c && b)) (sym count) (sat (k % 16) (omega arith))
 
   -- one of the two tables, whose entries are the numbers g of the edges
-  cells-after : (g : Edge → ℕ) (v : ℕ) → g (record { destination = d; marks = m }) ≡ v → (entry exit : List ℕ)
+  cells-after : (g : Edge → ℕ) (v : ℕ) → g new ≡ v → (entry exit : List ℕ)
       → entry ≡ rows 16 (λ p l. option (t .edge p l) 0 g) → Filled q members n v entry exit → exit ≡ rows 16 (λ p l. option (after .edge p l) 0 g)
   cells-after g v e entry exit was fill =
       let old : ℕ → ℕ → ℕ = λ p l. option (t .edge p l) 0 g in
-      let new : ℕ → ℕ → ℕ = λ p l. option (after .edge p l) 0 g in
+      let due : ℕ → ℕ → ℕ = λ p l. option (after .edge p l) 0 g in
       let size : length exit ≡ 256 = fill .size ∙ ap length was ∙ rows-length 16 old in
-      ext-getD 0 exit (rows 16 new) (size ∙ sym (rows-length 16 new)) λ k hk.
+      ext-getD 0 exit (rows 16 due) (size ∙ sym (rows-length 16 due)) λ k hk.
       fill .cells k
       ∙ ap₂ (λ b x. cond b v x) (asked k) (ap (λ xs. getD xs k 0) was ∙ each-at 0 256 (λ i. old (i / 16) (i % 16)) k (omega arith))
-      ∙ ap (λ w. cond (eqb (k / 16) q && (ltb (k % 16) (letters h) && holds f (k % 16))) w (old (k / 16) (k % 16))) (sym e)
-      ∙ sym (option-cond g (eqb (k / 16) q && (ltb (k % 16) (letters h) && holds f (k % 16))) (record { destination = d; marks = m }) (t .edge (k / 16) (k % 16)))
-      ∙ sym (each-at 0 256 (λ i. new (i / 16) (i % 16)) k (omega arith))
+      ∙ ap (λ w. cond (eqb (k / 16) q && (ltb (k % 16) (letters h) && f (k % 16))) w (old (k / 16) (k % 16))) (sym e)
+      ∙ sym (option-cond g (eqb (k / 16) q && (ltb (k % 16) (letters h) && f (k % 16))) new (t .edge (k / 16) (k % 16)))
+      ∙ sym (each-at 0 256 (λ i. due (i / 16) (i % 16)) k (omega arith))
 
   given-after : (given : List ℕ) → length given ≡ 16 → ((p l : ℕ) → p < 16 → l < letters h → has (getD given p 0) l ≡ isSome (t .edge p l))
       → (p l : ℕ) → p < 16 → l < letters h → has (getD (set given q (bitOr members (getD given q 0))) p 0) l ≡ isSome (after .edge p l)
   given-after given size was p l hp hl = go (ℕ-discrete p q)
     where
-      new : Edge
-      new = record { destination = d; marks = m }
-
       go : Dec (p ≡ q) → has (getD (set given q (bitOr members (getD given q 0))) p 0) l ≡ isSome (after .edge p l)
       go (yes e) =
           ap (λ j. has (getD (set given q (bitOr members (getD given q 0))) j 0) l) e
           ∙ ap (λ s. has s l) (getD-set-same given q (bitOr members (getD given q 0)) 0 (omega arith))
           ∙ has-or members (getD given q 0) l
           ∙ ap₂ (λ a b. a || b) (sat l (omega arith)) (ap (λ j. has (getD given j 0) l) (sym e) ∙ was p l hp hl)
-          ∙ sym (some-cond (holds f l) new (t .edge p l))
+          ∙ sym (some-cond (f l) new (t .edge p l))
           ∙ sym (rw (eq-eqb p q e, lt-ltb l (letters h) hl))
       go (no e) =
           ap (λ s. has s l) (getD-set-other given q p (bitOr members (getD given q 0)) 0 e) ∙ was p l hp hl ∙ sym (rw (ne-eqb p q e))
 
-pub holds-edge : (u : Table) (members n d m : ℕ) (destinations marks : List ℕ) → u .current < 16 → n ≤ 16 → length (u .given) ≡ 16
-    → Filled (u .current) members n d (u .destinations) destinations → Filled (u .current) members n m (u .marks) marks
-    → HoldsEdge u members n d m (record {
+pub holds-edge : (u : Table) (c : Current) (members n d m : ℕ) (destinations marks : List ℕ) → c .state < 16 → n ≤ 16 → length (u .given) ≡ 16
+    → Filled (c .state) members n d (u .destinations) destinations → Filled (c .state) members n (bitOr (c .shared) m) (u .marks) marks
+    → HoldsEdge u c members n d m (record {
       named = u .named;
-      given = set (u .given) (u .current) (bitOr members (getD (u .given) (u .current) 0));
-      current = u .current;
+      given = set (u .given) (c .state) (bitOr members (getD (u .given) (c .state) 0));
+      current = c;
       destinations = destinations;
       marks = marks;
     })
-holds-edge u members n d m destinations marks hq hn size to with-marks h t f count sat g = record {
+holds-edge u c members n d m destinations marks hq hn size to with-marks h t f count sat g = record {
   named = g .named;
-  given = given-after h t f (u .current) members d m n hq hn count sat (u .given) size (g .given);
-  current = g .current;
-  destinations = cells-after h t f (u .current) members d m n hq hn count sat (λ e. e .destination) d refl (u .destinations) destinations (g .destinations) to;
-  marks = cells-after h t f (u .current) members d m n hq hn count sat (λ e. e .marks) m refl (u .marks) marks (g .marks) with-marks;
+  given = given-after h t f c members d m n hq hn count sat (u .given) size (g .given);
+  current-is = sym (ap (λ b. cond b (some (currentOf c)) none) (lt-ltb (c .state) 16 hq));
+  destinations = cells-after h t f c members d m n hq hn count sat (λ e. e .destination) d refl (u .destinations) destinations (g .destinations) to;
+  marks = cells-after h t f c members d m n hq hn count sat (λ e. e .marks) (bitOr (c .shared) m) refl (u .marks) marks (g .marks) with-marks;
 }

@@ -2,7 +2,7 @@
 use mathlib.Core.Path.{_≡_}
 use mathlib.Core.Bool.{cond}
 use mathlib.Core.List.{List}
-use mathlib.Core.Option.{none, some}
+use mathlib.Core.Option.{Option, none, some}
 use Prim.Native.Nat.{ℕ, _≤_, _<_}
 use lib.Dec.{ltb}
 use lib.ListN.{getD}
@@ -17,6 +17,7 @@ use Rattle.hoa_text.specs.Header.{Header}
 use Rattle.hoa_text.specs.Body.{letters, noStates, body}
 use Rattle.hoa_text.specs.Body as Hoa
 use Rattle.hoa_text.specs.Reading.{made}
+use Rattle.hoa_body.specs.declared.Current.{Current}
 use Rattle.hoa_body.specs.declared.Table.{Table}
 use Rattle.hoa_body.specs.declared.BodyRead.{BodyRead}
 use Rattle.hoa_body.specs.declared.Answer.{Answer}
@@ -36,11 +37,19 @@ pub record Bounded (a : Automaton) : Type 0 where
 
 -- ---- the table
 
+-- the current state, as the code keeps it
+abbrev pub currentOf : Current → Hoa.Current
+currentOf c = record { state = c .state; shared = c .shared; labelled = c .labelled; listed = c .listed }
+
+-- none before the first
+abbrev pub current : Current → Option Hoa.Current
+current c = cond (ltb (c .state) 16) (some (currentOf c)) none
+
 -- the states that were named, the letters that have an edge, the current state, and the entries that the value will have
 pub record Holds (h : Header) (t : Hoa.Table) (u : Table) : Type 0 where
   pub named : (q : ℕ) → q < 16 → has (u .named) q ≡ t .named q
   pub given : (q l : ℕ) → q < 16 → l < letters h → has (getD (u .given) q 0) l ≡ isSome (t .edge q l)
-  pub current : t .current ≡ cond (ltb (u .current) 16) (some (u .current)) none
+  pub current-is : t .current ≡ current (u .current)
   pub destinations : u .destinations ≡ rows 16 (λ q l. option (t .edge q l) 0 (λ e. e .destination))
   pub marks : u .marks ≡ rows 16 (λ q l. option (t .edge q l) 0 (λ e. e .marks))
 

@@ -1,3 +1,5 @@
 pub mod Answers
 pub mod Tables
 pub mod Parts
+pub mod States
+pub mod Edges

@@ -1,5 +1,7 @@
 // The body of a HOA text: states and edges, up to `--END--`.
+mod edges;
 mod parts;
+mod states;
 mod tables;
 
 use automaton::Automaton;
@@ -12,14 +14,25 @@ use tables::with_edge;
 use tables::with_state;
 ghost use Rattle.hoa_body.specs.Answers.{Bounded, BodyOf, BodyAnswer};
 
+// A state whose edges may stand here.
+pub struct Current {
+    // `Automaton::STATES` before the first.
+    pub state: usize,
+    // The marks that it shares with its edges.
+    pub shared: u8,
+    // Whether one of its edges had a label.
+    pub labelled: bool,
+    // How many had none.
+    pub listed: usize,
+}
+
 // The body so far.
 pub struct Table {
     // The states that were named: bit q for the state q.
     pub named: u16,
     // For each state the letters that have an edge: bit l for the letter l.
     pub given: [u16; Automaton::STATES],
-    // The state whose edges may stand here; `Automaton::STATES` before the first.
-    pub current: usize,
+    pub current: Current,
     pub destinations: [u8; Automaton::CELLS],
     pub marks: [u8; Automaton::CELLS],
 }
@@ -61,12 +74,12 @@ fn parts_from(text: &[u8], at: usize, opened: Automaton) -> BodyRead
     let mut i = at;
     loop {
         match next_part(text, i, opened, table) {
-            Part::State(state, next) => {
-                table = with_state(table, state);
+            Part::State(state, marks, next) => {
+                table = with_state(table, state, marks);
                 i = next;
             }
-            Part::Edge(set, destination, marks, next) => {
-                table = with_edge(table, set, letters, destination, marks);
+            Part::Edge(counted, set, destination, marks, next) => {
+                table = with_edge(table, counted, set, letters, destination, marks);
                 i = next;
             }
             Part::End(end) => {

@@ -1,4 +1,5 @@
 // The table of the body so far.
+use crate::Current;
 use crate::Table;
 use automaton::Automaton;
 use bits::sets::has;
@@ -17,29 +18,48 @@ pub fn no_states(opened: Automaton) -> Table
     Table {
         named: 0,
         given: [0u16; Automaton::STATES],
-        current: Automaton::STATES,
+        current: Current {
+            state: Automaton::STATES,
+            shared: 0,
+            labelled: false,
+            listed: 0,
+        },
         destinations,
         marks,
     }
 }
 
-pub fn with_state(table: Table, state: usize) -> Table
+pub fn with_state(table: Table, state: usize, marks: u8) -> Table
     requires { ⌜ state < 16 ⌝ }
-    ensures { λ r. ⌜ HoldsState table state r ⌝ }
+    ensures { λ r. ⌜ HoldsState table state marks r ⌝ }
 {
+    let current = Current {
+        state,
+        shared: marks,
+        labelled: false,
+        listed: 0,
+    };
     let mut next = table;
     next.named = single(state) | table.named;
-    next.current = state;
+    next.current = current;
     next
 }
 
-// An edge of the current state, for the letters of the set among `letters`.
-pub fn with_edge(table: Table, set: u16, letters: usize, destination: usize, marks: u8) -> Table
-    requires { ⌜ (table .current < 16) × (letters ≤ 16) × (destination < 16) ⌝ }
-    ensures { λ r. ⌜ HoldsEdge table set letters destination marks r ⌝ }
+// An edge of the counted state, for the letters of the set among `letters`; the state's marks are joined with its own.
+pub fn with_edge(
+    table: Table,
+    counted: Current,
+    set: u16,
+    letters: usize,
+    destination: usize,
+    marks: u8,
+) -> Table
+    requires { ⌜ (counted .state < 16) × (letters ≤ 16) × (destination < 16) ⌝ }
+    ensures { λ r. ⌜ HoldsEdge table counted set letters destination marks r ⌝ }
 {
-    let state = table.current;
+    let state = counted.state;
     let mut next = table;
+    next.current = counted;
     next.given[state] = set | next.given[state];
     fill(
         &mut next.destinations,
@@ -48,7 +68,7 @@ pub fn with_edge(table: Table, set: u16, letters: usize, destination: usize, mar
         letters,
         destination as u8,
     );
-    fill(&mut next.marks, state, set, letters, marks);
+    fill(&mut next.marks, state, set, letters, counted.shared | marks);
     next
 }
 

@@ -2,7 +2,7 @@
 -- those of the table "What is turned down".
 use mathlib.Core.Bool.{Bool, true, false, cond, _&&_, _||_}
 use mathlib.Core.Option.{Option, none, some}
-use Prim.Native.Nat.{ℕ, suc, _^_}
+use Prim.Native.Nat.{ℕ, _+_, _^_}
 use lib.Bits.{bitOr}
 use lib.Dec.{leb, ltb, eqb}
 use lib.ListN.{length}
@@ -119,7 +119,7 @@ abbrev pub withLabel : Current → Current
 withLabel c = record { state = c .state; shared = c .shared; labelled = true; listed = c .listed }
 
 abbrev pub withoutLabel : Current → Current
-withoutLabel c = record { state = c .state; shared = c .shared; labelled = c .labelled; listed = suc (c .listed) }
+withoutLabel c = record { state = c .state; shared = c .shared; labelled = c .labelled; listed = c .listed + 1 }
 
 -- E1: "One state may not mix both kinds: the first edge of the other kind is refused with 1"; s begins with the `[`
 abbrev pub labelledEdge : Header → Table → Stream → Current → Parsed Table

@@ -8,7 +8,7 @@ use denote.Ref.{now}
 use Rattle.hoa_text.specs.Header.{Header}
 use Rattle.hoa_body.specs.Answers.{Opens}
 use Rattle.hoa_body.specs.Parts.{PartAnswer}
-use Rattle.hoa_body.proofs.PartLaws.{count-is}
+use Rattle.hoa_body.proofs.EdgeLaws.{count-is}
 use Rattle.hoa_body.proofs.BodyLaws.{Turned, not-turned, turned, turned-ended, turned-refused}
 use Rattle.hoa_body.proofs.parts_from.Statement.{statement}
 use Rattle.hoa_body.proofs.parts_from.Tie as tie
@@ -55,33 +55,33 @@ loop-again c =
     let p = subst (PartAnswer (now (a .text)) (l .i) (a .opened) (l .table)) (c .before .before .state .given .1) (c .before .before .before .before .next-part .ensures) in
     λ h o. let x = l .inv h o in turned h _ _ _ _ x _ _ _ (p .means h (x .table) o (x .holds)) (c .with-state .ensures h (x .table) (x .holds))
 
-enum-known-set : tie.Need-enum-known-set Inv-loop μ-loop
-enum-known-set c = search needs
+enum-known-counted : tie.Need-enum-known-counted Inv-loop μ-loop
+enum-known-counted c = search needs
 
 with-edge-requires : tie.Need-with-edge-requires Inv-loop μ-loop
 with-edge-requires c κs =
     let a = c .before .before .before .before .before .before .before .before .args in
     let l = c .before .before .before .before .loop in
-    let p = subst (PartAnswer (now (a .text)) (l .i) (a .opened) (l .table)) (c .before .set .given .1) (c .before .before .before .next-part .ensures) in
+    let p = subst (PartAnswer (now (a .text)) (l .i) (a .opened) (l .table)) (c .before .counted .given .1) (c .before .before .before .next-part .ensures) in
     (p .lies .state-lt, c .before .before .before .before .before .before .power-of-two .ensures .1 .1, p .lies .destination-lt)
 
 loop-less-2 : tie.Need-loop-less-2 Inv-loop μ-loop
 loop-less-2 c =
     let a = c .before .before .before .before .before .before .before .before .before .args in
     let l = c .before .before .before .before .before .loop in
-    let p = subst (PartAnswer (now (a .text)) (l .i) (a .opened) (l .table)) (c .before .before .set .given .1) (c .before .before .before .before .next-part .ensures) in
+    let p = subst (PartAnswer (now (a .text)) (l .i) (a .opened) (l .table)) (c .before .before .counted .given .1) (c .before .before .before .before .next-part .ensures) in
     omega (arith, p .lies .from, p .lies .to)
 
 loop-again-2 : tie.Need-loop-again-2 Inv-loop μ-loop
 loop-again-2 c =
     let a = c .before .before .before .before .before .before .before .before .before .args in
     let l = c .before .before .before .before .before .loop in
-    let p = subst (PartAnswer (now (a .text)) (l .i) (a .opened) (l .table)) (c .before .before .set .given .1) (c .before .before .before .before .next-part .ensures) in
+    let p = subst (PartAnswer (now (a .text)) (l .i) (a .opened) (l .table)) (c .before .before .counted .given .1) (c .before .before .before .before .next-part .ensures) in
     λ h o.
     let x = l .inv h o in
     let y = p .means h (x .table) o (x .holds) in
     turned h _ _ _ _ x _ _ _ (y .is)
-    (c .with-edge .ensures h (x .table) (y .formula) (count-is (a .opened) h _ (c .before .before .before .before .before .before .before .before .before .pre) o (c .before .before .before .before .before .before .before .power-of-two .ensures .0)) (y .letters) (x .holds))
+    (c .with-edge .ensures h (x .table) (y .for) (count-is (a .opened) h _ (c .before .before .before .before .before .before .before .before .before .pre) o (c .before .before .before .before .before .before .before .power-of-two .ensures .0)) (y .letters) (x .holds))
 
 enum-known-end : tie.Need-enum-known-end Inv-loop μ-loop
 enum-known-end c = search needs
@@ -117,7 +117,7 @@ parts-from-spec =
     with-state-requires
     loop-less
     loop-again
-    enum-known-set
+    enum-known-counted
     with-edge-requires
     loop-less-2
     loop-again-2

@@ -29,10 +29,10 @@ fill-requires-2 c κs = search needs
 
 returns : tie.Need-returns
 returns c =
-    let a = c .before .before .before .before .before .args in
-    let p = c .before .before .before .before .before .pre in
+    let a = c .before .before .before .before .before .before .args in
+    let p = c .before .before .before .before .before .before .pre in
     let size : length (a .table .given) ≡ 16 = search needs in
-    holds-edge (a .table) _ _ _ _ _ _ (p .0) (p .1) size (c .before .before .fill .ensures) (c .fill2 .ensures)
+    holds-edge (a .table) (a .counted) _ _ _ _ _ _ (p .0) (p .1) size (c .before .before .before .fill .ensures) (c .fill2 .ensures)
 
 pub with-edge-spec : {M : Type 1} → statement M
 with-edge-spec =

@@ -9,7 +9,7 @@ single-requires : tie.Need-single-requires
 single-requires c κs = search needs
 
 returns : tie.Need-returns
-returns c = holds-state _ _ _ (c .before .before .pre) (single-is (c .before .before .pre) (c .before .single .ensures))
+returns c = holds-state _ _ _ _ (c .before .before .pre) (single-is (c .before .before .pre) (c .before .single .ensures))
 
 pub with-state-spec : {M : Type 1} → statement M
 with-state-spec = tie.close (tie.spec single-requires returns)

@@ -1,11 +1,11 @@
--- `parts::unquoted` meets its contract.
+-- `states::unquoted` meets its contract.
 use mathlib.Core.Path.{subst}
 use native.Mathlib.Omega.{arith}
 use borrow.Author.Needs.{needs}
 use Rattle.hoa_tokens.specs.Answers.{Reads}
-use Rattle.hoa_body.proofs.PartLaws.{behind-quoted, none-quoted}
-use Rattle.hoa_body.proofs.parts.unquoted.Statement.{statement}
-use Rattle.hoa_body.proofs.parts.unquoted.Tie as tie
+use Rattle.hoa_body.proofs.StateLaws.{behind-quoted, none-quoted}
+use Rattle.hoa_body.proofs.states.unquoted.Statement.{statement}
+use Rattle.hoa_body.proofs.states.unquoted.Tie as tie
 
 next-token-requires : tie.Need-next-token-requires
 next-token-requires c κs = search needs

@@ -1,0 +1,188 @@
+-- Laws of edges: their kind, and whether one is the second for a letter.
+use mathlib.Core.Path.{_≡_, refl, sym, ap, ap₂, _∙_, subst}
+use mathlib.Core.Bool.{Bool, true, false, cond, true≢false, not, _&&_}
+use mathlib.Core.List.{List}
+use mathlib.Core.Option.{Option, none, some}
+use Prim.Native.Nat.{ℕ, _+_, _^_, _≤_, _<_, min}
+use native.Mathlib.Omega.{arith}
+use borrow.Author.Tests.{lt-leb, le-leb, ltb-true, ltb-false}
+use lib.Bits.{bitAnd}
+use lib.Dec.{leb, ltb, eqb}
+use lib.ListN.{getD}
+use Rattle.meaning.specs.BitSet.{has}
+use Rattle.meaning.specs.BitSetLaws.{has-and}
+use Rattle.meaning.specs.TestLaws.{and-left, and-right}
+use Rattle.automaton.specs.declared.Automaton.{Automaton}
+use Rattle.refusals.specs.declared.Refusal.{Refusal}
+use Rattle.refusals.specs.declared.Refusal.the-variants.{Form, SecondEdge}
+use Rattle.bits.specs.Powers.{power-is}
+use Rattle.bits.specs.Sets.{Lowest, single}
+use Rattle.bits.specs.SetLaws.{single-is}
+use Rattle.bits.specs.SingleSets.{has-single}
+use Rattle.hoa_text.specs.Basics.{option, isSome}
+use Rattle.hoa_text.specs.Tokens.{Stream, left}
+use Rattle.hoa_text.specs.Grammar.{rest, at, gives, refuses, Parsed, onward}
+use Rattle.hoa_text.specs.Header.{Header}
+use Rattle.hoa_text.specs.Body.{Table, letters, withEdge, secondEdge, marksGiven, labelledEdge, listedEdge, inState}
+use Rattle.hoa_text.specs.Body as Hoa
+use Rattle.hoa_labels.specs.Answers.{Members}
+use Rattle.hoa_edges.specs.declared.EdgeRead.{EdgeRead}
+use Rattle.hoa_edges.specs.declared.EdgeRead.the-variants as Read
+use Rattle.hoa_edges.specs.Answers.{EdgeAnswer, UnlabelledAnswer}
+use Rattle.hoa_body.specs.declared.Current.{Current}
+use Rattle.hoa_body.specs.declared.Table as Code
+use Rattle.hoa_body.specs.declared.parts.Part.{Part}
+use Rattle.hoa_body.specs.declared.parts.Part.the-variants.{Edge, Refused}
+use Rattle.hoa_body.specs.Answers.{Bounded, Opens, currentOf, current, Holds}
+use Rattle.hoa_body.specs.Parts.{BodyTurn, PartMeans}
+use Rattle.hoa_body.specs.Edges.{TakesLabel, TakesListed, LabelledEdgeAnswer, ListedEdgeAnswer, FirstAnswer}
+use Rattle.hoa_body.proofs.SetLaws.{first-found, first-lacks}
+
+pub count-is : (a : Automaton) (h : Header) (n : ℕ) → Bounded a → Opens a h → n ≡ 2 ^ min (a .propositions) 4 → letters h ≡ n
+count-is a h n b o e = sym (power-is (b .propositions-le) e ∙ ap (λ a. 2 ^ a .propositions) o)
+
+abbrev edgeTurn : Parsed Table → BodyTurn
+edgeTurn x = onward x
+
+-- ---- whether it may stand here
+
+module _ (t : Table) (c : Current) (x : Stream) (is : t .current ≡ current c) (f : Hoa.Current → Parsed Table) where
+  in-state : (b : Bool) → ltb (c .state) 16 ≡ b → inState t x f ≡ edgeTurn (cond b (f (currentOf c)) (refuses (Form (at x))))
+  in-state b e = ap (λ y. edgeTurn (option y (refuses (Form (at x))) f)) (is ∙ ap (λ b. cond b (some (currentOf c)) none) e) ∙ go b
+    where
+      go : (b : Bool) → edgeTurn (option (cond b (some (currentOf c)) none) (refuses (Form (at x))) f) ≡ edgeTurn (cond b (f (currentOf c)) (refuses (Form (at x))))
+      go true = refl
+      go false = refl
+
+module _ (c : Current) where
+  pub takes-label : TakesLabel c (ltb (c .state) 16 && eqb (c .listed) 0)
+  takes-label = go (ltb (c .state) 16) (eqb (c .listed) 0) refl refl
+    where
+      go : (p q : Bool) → ltb (c .state) 16 ≡ p → eqb (c .listed) 0 ≡ q → TakesLabel c (p && q)
+      go true true e g = record {
+        state-lt = λ y. ltb-true (c .state) 16 e;
+        taken = λ y h t x is. in-state t c x is (labelledEdge h t x) true e ∙ rw g;
+        refused = λ y. absurd (true≢false y);
+      }
+      go true false e g = record {
+        state-lt = λ y. absurd (true≢false (sym y));
+        taken = λ y. absurd (true≢false (sym y));
+        refused = λ y h t x is. in-state t c x is (labelledEdge h t x) true e ∙ rw g;
+      }
+      go false q e g = record {
+        state-lt = λ y. absurd (true≢false (sym y));
+        taken = λ y. absurd (true≢false (sym y));
+        refused = λ y h t x is. in-state t c x is (labelledEdge h t x) false e;
+      }
+
+  pub takes-listed : (n : ℕ) → TakesListed c n ((ltb (c .state) 16 && not (c .labelled)) && ltb (c .listed) n)
+  takes-listed n = go (ltb (c .state) 16) (c .labelled) (ltb (c .listed) n) refl refl refl
+    where
+      none-left : (h : Header) → letters h ≡ n → ltb (c .listed) n ≡ false → leb (letters h) (c .listed) ≡ true
+      none-left h k g = le-leb (letters h) (c .listed) (omega (arith, ltb-false (c .listed) n g))
+
+      go : (p q b : Bool) → ltb (c .state) 16 ≡ p → c .labelled ≡ q → ltb (c .listed) n ≡ b → TakesListed c n ((p && not q) && b)
+      go true false true e l g = record {
+        state-lt = λ y. ltb-true (c .state) 16 e;
+        listed-lt = λ y. ltb-true (c .listed) n g;
+        taken = λ y h t x k is. in-state t c x is (listedEdge h t x) true e ∙ rw (l, lt-leb (letters h) (c .listed) (omega (arith, ltb-true (c .listed) n g)));
+        refused = λ y. absurd (true≢false y);
+      }
+      go true false false e l g = record {
+        state-lt = λ y. absurd (true≢false (sym y));
+        listed-lt = λ y. absurd (true≢false (sym y));
+        taken = λ y. absurd (true≢false (sym y));
+        refused = λ y h t x k is. in-state t c x is (listedEdge h t x) true e ∙ rw (l, none-left h k g);
+      }
+      go true true b e l g = record {
+        state-lt = λ y. absurd (true≢false (sym y));
+        listed-lt = λ y. absurd (true≢false (sym y));
+        taken = λ y. absurd (true≢false (sym y));
+        refused = λ y h t x k is. in-state t c x is (listedEdge h t x) true e ∙ rw l;
+      }
+      go false q b e l g = record {
+        state-lt = λ y. absurd (true≢false (sym y));
+        listed-lt = λ y. absurd (true≢false (sym y));
+        taken = λ y. absurd (true≢false (sym y));
+        refused = λ y h t x k is. in-state t c x is (listedEdge h t x) false e;
+      }
+
+-- ---- whether it is the second for a letter
+
+module _ (read : EdgeRead) (a : Automaton) (u : Code.Table) (c : Current) where
+  pub first-refused : (r : Refusal) → read ≡ Read.Refused r → FirstAnswer read c a u (Refused r)
+  first-refused r is =
+      subst (λ x. FirstAnswer x c a u (Refused r)) (sym is) (record { lies = λ s i l. tt; means = λ h t s x o g z. ap onward z })
+
+  -- the lowest letter that has an edge already is r, of n letters
+  module _ (bounded : Bounded a) (hq : c .state < 16) (set d m e n r : ℕ) (is : read ≡ Read.To set d m e) (count : n ≡ 2 ^ min (a .propositions) 4)
+      (small : n ≤ 16) (low : Lowest (bitAnd set (getD (u .given) (c .state) 0)) n r) where
+    module _ (h : Header) (t : Table) (f : ℕ → Bool) (o : Opens a h) (g : Holds h t u) (sat : Members set f) where
+      counted : letters h ≡ n
+      counted = count-is a h n bounded o count
+
+      lowest : Lowest (bitAnd set (getD (u .given) (c .state) 0)) (letters h) r
+      lowest = subst (λ n. Lowest (bitAnd set (getD (u .given) (c .state) 0)) n r) (sym counted) low
+
+      asked : (l : ℕ) → l < letters h
+          → cond (f l && isSome (t .edge (c .state) l)) (some (SecondEdge (c .state) l)) none
+          ≡ cond (has (bitAnd set (getD (u .given) (c .state) 0)) l) (some (SecondEdge (c .state) l)) none
+      asked l hl =
+          ap (λ b. cond b (some (SecondEdge (c .state) l)) none)
+          (sym (has-and set (getD (u .given) (c .state) 0) l ∙ ap₂ (λ b c. b && c) (sat l (omega (arith, counted))) (g .given (c .state) l hq hl)))
+
+      second : r < n → secondEdge h t (c .state) f ≡ some (SecondEdge (c .state) r)
+      second l = first-found _ (letters h) r lowest _ (SecondEdge (c .state)) asked (omega (arith, counted))
+
+      no-second : n ≤ r → secondEdge h t (c .state) f ≡ none
+      no-second l = first-lacks _ (letters h) r lowest _ (SecondEdge (c .state)) asked (omega (arith, counted))
+
+    -- the turn, by whether there is a second edge
+    judged : (h : Header) (t : Table) (f : ℕ → Bool) (s : List ℕ) (x : Parsed Table) → x ≡ marksGiven h t (currentOf c) f d m (left s e) → (y : Option Refusal)
+        → secondEdge h t (c .state) f ≡ y → edgeTurn x ≡ edgeTurn (option y (gives (withEdge h t (currentOf c) f d m, left s e)) refuses)
+    judged h t f s x z y k = ap edgeTurn z ∙ ap (λ y. edgeTurn (option y (gives (withEdge h t (currentOf c) f d m, left s e)) refuses)) k
+
+    pub edge-second : r < n → FirstAnswer read c a u (Refused (SecondEdge (c .state) r))
+    edge-second l = subst (λ x. FirstAnswer x c a u (Refused (SecondEdge (c .state) r))) (sym is) (record {
+      lies = λ s i y. tt;
+      means = λ h t s x o g z. judged h t (z .for) s x (z .is) _ (second h t (z .for) o g (z .letters) l);
+    })
+
+    pub edge-first : n ≤ r → FirstAnswer read c a u (Edge c set d m e)
+    edge-first l = subst (λ x. FirstAnswer x c a u (Edge c set d m e)) (sym is) (record {
+      lies = λ s i y. record {
+        from = y .from;
+        to = y .to;
+        state-lt = hq;
+        destination-lt = omega (arith, y .below, bounded .states-le);
+      };
+      means = λ h t s x o g z. record { for = z .for; letters = z .letters; is = judged h t (z .for) s x (z .is) _ (no-second h t (z .for) o g (z .letters) l) };
+    })
+
+-- ---- with a label or without
+
+module _ (s : List ℕ) (i : ℕ) (a : Automaton) (u : Code.Table) (bounded : Bounded a) (read : EdgeRead) (r : Part) where
+  -- the current state with one edge more
+  abbrev with-label : Current
+  with-label = record { state = u .current .state; shared = u .current .shared; labelled = true; listed = u .current .listed }
+
+  abbrev without-label : Current
+  without-label = record { state = u .current .state; shared = u .current .shared; labelled = u .current .labelled; listed = u .current .listed + 1 }
+
+  pub labelled-edge : EdgeAnswer s i (a .states) (a .propositions) (a .sets) read → FirstAnswer read with-label a u r → LabelledEdgeAnswer s i a u r
+  labelled-edge x y = record {
+    lies = y .lies s i (x .lies);
+    means = λ h t o g.
+        y .means h t s _ o g
+        (x .means h t (currentOf with-label) (sym (ap (λ a. a .states) o)) (sym (ap (λ a. a .propositions) o)) (sym (ap (λ a. a .sets) o)) (bounded .sets-le));
+  }
+
+  pub listed-edge : (set : ℕ) → u .current .listed < 16 → set ≡ single (u .current .listed) → UnlabelledAnswer s i (a .states) (a .sets) set read
+      → FirstAnswer read without-label a u r → ListedEdgeAnswer s i a u r
+  listed-edge set l e x y = record {
+    lies = y .lies s i (x .lies);
+    means = λ h t o g.
+        y .means h t s _ o g
+        (x .means h t (currentOf without-label) (λ k. eqb k (u .current .listed)) (sym (ap (λ a. a .states) o)) (sym (ap (λ a. a .sets) o)) (bounded .sets-le)
+        (λ k hk. ap (λ n. has n k) (single-is l e) ∙ has-single (u .current .listed) k));
+  }
