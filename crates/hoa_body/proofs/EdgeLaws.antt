@@ -11,17 +11,15 @@ use lib.Dec.{leb, ltb, eqb}
 use lib.ListN.{getD}
 use Rattle.meaning.specs.BitSet.{has}
 use Rattle.meaning.specs.BitSetLaws.{has-and}
-use Rattle.meaning.specs.TestLaws.{and-left, and-right}
 use Rattle.automaton.specs.declared.Automaton.{Automaton}
 use Rattle.refusals.specs.declared.Refusal.{Refusal}
 use Rattle.refusals.specs.declared.Refusal.the-variants.{Form, SecondEdge}
-use Rattle.bits.specs.Powers.{power-is}
 use Rattle.bits.specs.Sets.{Lowest, single}
 use Rattle.bits.specs.SetLaws.{single-is}
 use Rattle.bits.specs.SingleSets.{has-single}
 use Rattle.hoa_text.specs.Basics.{option, isSome}
 use Rattle.hoa_text.specs.Tokens.{Stream, left}
-use Rattle.hoa_text.specs.Grammar.{rest, at, gives, refuses, Parsed, onward}
+use Rattle.hoa_text.specs.Grammar.{at, gives, refuses, Parsed, onward}
 use Rattle.hoa_text.specs.Header.{Header}
 use Rattle.hoa_text.specs.Body.{Table, letters, withEdge, secondEdge, marksGiven, labelledEdge, listedEdge, inState}
 use Rattle.hoa_text.specs.Body as Hoa
@@ -34,12 +32,10 @@ use Rattle.hoa_body.specs.declared.Table as Code
 use Rattle.hoa_body.specs.declared.parts.Part.{Part}
 use Rattle.hoa_body.specs.declared.parts.Part.the-variants.{Edge, Refused}
 use Rattle.hoa_body.specs.Answers.{Bounded, Opens, currentOf, current, Holds}
-use Rattle.hoa_body.specs.Parts.{BodyTurn, PartMeans}
+use Rattle.hoa_body.specs.Parts.{BodyTurn}
 use Rattle.hoa_body.specs.Edges.{TakesLabel, TakesListed, LabelledEdgeAnswer, ListedEdgeAnswer, FirstAnswer}
+use Rattle.hoa_body.proofs.OpenedLaws.{states-are, propositions-are, sets-are, letters-are}
 use Rattle.hoa_body.proofs.SetLaws.{first-found, first-lacks}
-
-pub count-is : (a : Automaton) (h : Header) (n : ℕ) → Bounded a → Opens a h → n ≡ 2 ^ min (a .propositions) 4 → letters h ≡ n
-count-is a h n b o e = sym (power-is (b .propositions-le) e ∙ ap (λ a. 2 ^ a .propositions) o)
 
 abbrev edgeTurn : Parsed Table → BodyTurn
 edgeTurn x = onward x
@@ -119,7 +115,7 @@ module _ (read : EdgeRead) (a : Automaton) (u : Code.Table) (c : Current) where
       (small : n ≤ 16) (low : Lowest (bitAnd set (getD (u .given) (c .state) 0)) n r) where
     module _ (h : Header) (t : Table) (f : ℕ → Bool) (o : Opens a h) (g : Holds h t u) (sat : Members set f) where
       counted : letters h ≡ n
-      counted = count-is a h n bounded o count
+      counted = letters-are a h o n bounded count
 
       lowest : Lowest (bitAnd set (getD (u .given) (c .state) 0)) (letters h) r
       lowest = subst (λ n. Lowest (bitAnd set (getD (u .given) (c .state) 0)) n r) (sym counted) low
@@ -174,7 +170,7 @@ module _ (s : List ℕ) (i : ℕ) (a : Automaton) (u : Code.Table) (bounded : Bo
     lies = y .lies s i (x .lies);
     means = λ h t o g.
         y .means h t s _ o g
-        (x .means h t (currentOf with-label) (sym (ap (λ a. a .states) o)) (sym (ap (λ a. a .propositions) o)) (sym (ap (λ a. a .sets) o)) (bounded .sets-le));
+        (x .means h t (currentOf with-label) (states-are a h o) (propositions-are a h o) (sets-are a h o) (bounded .sets-le));
   }
 
   pub listed-edge : (set : ℕ) → u .current .listed < 16 → set ≡ single (u .current .listed) → UnlabelledAnswer s i (a .states) (a .sets) set read
@@ -183,6 +179,6 @@ module _ (s : List ℕ) (i : ℕ) (a : Automaton) (u : Code.Table) (bounded : Bo
     lies = y .lies s i (x .lies);
     means = λ h t o g.
         y .means h t s _ o g
-        (x .means h t (currentOf without-label) (λ k. eqb k (u .current .listed)) (sym (ap (λ a. a .states) o)) (sym (ap (λ a. a .sets) o)) (bounded .sets-le)
+        (x .means h t (currentOf without-label) (λ k. eqb k (u .current .listed)) (states-are a h o) (sets-are a h o) (bounded .sets-le)
         (λ k hk. ap (λ n. has n k) (single-is l e) ∙ has-single (u .current .listed) k));
   }

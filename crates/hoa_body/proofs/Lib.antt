@@ -1,3 +1,4 @@
+pub mod OpenedLaws
 pub mod SetLaws
 pub mod TableLaws
 pub mod StateLaws

@@ -14,7 +14,7 @@ use Rattle.automaton.specs.declared.Automaton.{Automaton}
 use Rattle.refusals.specs.declared.Refusal.the-variants.{Form}
 use Rattle.automaton.specs.Bytes.{bytes}
 use Rattle.hoa_text.specs.Basics.{same}
-use Rattle.hoa_text.specs.Tokens.{Stream, left}
+use Rattle.hoa_text.specs.Tokens.{left}
 use Rattle.hoa_text.specs.Grammar.{at, refuses}
 use Rattle.hoa_text.specs.Header.{Header}
 use Rattle.hoa_text.specs.Body.{Table, labelledEdge, listedEdge, inState, bodyRead}
@@ -30,7 +30,7 @@ use Rattle.hoa_body.specs.Answers.{Bounded}
 use Rattle.hoa_body.specs.Parts.{PartLies, PartMeans, PartAnswer}
 use Rattle.hoa_body.specs.States.{StateAnswer}
 use Rattle.hoa_body.specs.Edges.{TakesLabel, TakesListed, LabelledEdgeAnswer, ListedEdgeAnswer}
-use Rattle.hoa_body.proofs.EdgeLaws.{count-is}
+use Rattle.hoa_body.proofs.OpenedLaws.{letters-are}
 
 -- a part behind the token that opens it
 module _ (s : List ℕ) (i e : ℕ) (before : i < e) where
@@ -92,7 +92,7 @@ module _ (s : List ℕ) (i : ℕ) (a : Automaton) (u : Code.Table) where
     not-listed l = record {
       lies = tt;
       means = λ h t c g.
-          numbered h t ∙ takes .refused l h t (left s i) (count-is a h n bounded c count) (g .current-is) ∙ ap (λ x. refuses (Form (at x))) (k .is);
+          numbered h t ∙ takes .refused l h t (left s i) (letters-are a h c n bounded count) (g .current-is) ∙ ap (λ x. refuses (Form (at x))) (k .is);
     }
 
     pub listed-part : r ≡ true → (p : Part) → ListedEdgeAnswer s i a u p → PartAnswer s i a u p
@@ -100,7 +100,7 @@ module _ (s : List ℕ) (i : ℕ) (a : Automaton) (u : Code.Table) where
       lies = x .lies;
       means = λ h t c g.
           subst (λ y. PartMeans h t s y p)
-          (sym (numbered h t ∙ takes .taken l h t (left s i) (count-is a h n bounded c count) (g .current-is))) (x .means h t c g);
+          (sym (numbered h t ∙ takes .taken l h t (left s i) (letters-are a h c n bounded count) (g .current-is))) (x .means h t c g);
     }
 
   -- ---- the end, and what cannot stand here

@@ -31,6 +31,7 @@ use Rattle.hoa_body.specs.declared.parts.Part.the-variants.{State, Refus
 use Rattle.hoa_body.specs.Answers.{Bounded}
 use Rattle.hoa_body.specs.Parts.{BodyTurn, PartMeans}
 use Rattle.hoa_body.specs.States.{StateAnswer, StateMarkedAnswer, Unquoted}
+use Rattle.hoa_body.proofs.OpenedLaws.{states-are, sets-are}
 
 -- ---- a quoted text
 
@@ -89,7 +90,7 @@ module _ (s : List ℕ) (i : ℕ) (a : Automaton) (named : ℕ) where
     pub state-undeclared : a .states ≤ v → StateAnswer s i a named (Refused (Undeclared o))
     state-undeclared l = record {
       lies = tt;
-      means = λ h t c m. let n : a .states ≡ h .states = ap (λ a. a .states) c in numbered h t ∙ rw (le-ltb v (h .states) (omega arith));
+      means = λ h t c m. let n = states-are a h c in numbered h t ∙ rw (le-ltb v (h .states) (omega arith));
     }
 
     module _ (hv : v < a .states) (bounded : Bounded a) where
@@ -97,7 +98,7 @@ module _ (s : List ℕ) (i : ℕ) (a : Automaton) (named : ℕ) where
       state-twice b = record {
         lies = tt;
         means = λ h t c m.
-            let n : a .states ≡ h .states = ap (λ a. a .states) c in
+            let n = states-are a h c in
             numbered h t ∙ rw (lt-ltb v (h .states) (omega arith), sym (m v (omega (arith, bounded .states-le))) ∙ b);
       }
 
@@ -105,10 +106,10 @@ module _ (s : List ℕ) (i : ℕ) (a : Automaton) (named : ℕ) where
       state-first b r x = record {
         lies = x .lies i (omega (arith, k .lies .from, k .lies .longer));
         means = λ h t c m.
-            let n : a .states ≡ h .states = ap (λ a. a .states) c in
+            let n = states-are a h c in
             subst (λ y. PartMeans h t s y r)
             (sym (numbered h t ∙ rw (lt-ltb v (h .states) (omega arith), sym (m v (omega (arith, bounded .states-le))) ∙ b)))
-            (x .means h t (sym (ap (λ a. a .sets) c)));
+            (x .means h t (sets-are a h c));
       }
 
   pub no-state : peek numberOf (left s i) ≡ none → (o : ℕ) → o ≡ at (left s i) → StateAnswer s i a named (Refused (Form o))

@@ -12,7 +12,7 @@ use Rattle.refusals.specs.declared.Refusal.{Refusal}
 use Rattle.refusals.specs.declared.Refusal.the-variants.{Form, Undeclared}
 use Rattle.hoa_text.specs.Tokens.{left}
 use Rattle.hoa_text.specs.Grammar.{numberOf, at, gives, refuses, Parsed, peek, then}
-use Rattle.hoa_text.specs.Labels.{Formula, holds, label}
+use Rattle.hoa_text.specs.Labels.{holds, label}
 use Rattle.hoa_text.specs.Header.{Header}
 use Rattle.hoa_text.specs.Body.{Current, Table, marked, marksGiven, destinationGiven, unlabelled, labelGiven, edge}
 use Rattle.hoa_tokens.specs.declared.Token.the-variants.{Number}

@@ -30,8 +30,8 @@ use Rattle.hoa_tokens.specs.Answers.{stream, Reads}
 use Rattle.hoa_tokens.proofs.Token.{enum}
 use Rattle.hoa_body.specs.declared.Table as Code
 use Rattle.hoa_body.specs.Answers.{Bounded, Opens, Holds}
+use Rattle.hoa_body.proofs.OpenedLaws.{states-are, letters-are}
 use Rattle.hoa_body.proofs.SetLaws.{first-found, first-lacks}
-use Rattle.hoa_body.proofs.PartLaws.{count-is}
 use Rattle.hoa_read.specs.declared.Reading.{Reading}
 use Rattle.hoa_read.specs.declared.missing.Gap.{Gap}
 use Rattle.hoa_read.specs.declared.missing.Gap.the-variants.{At, Nowhere}
@@ -98,17 +98,17 @@ module _ (given : List ℕ) (n L : ℕ) (most : L ≤ 16) where
 
 module _ (a : Automaton) (u : Code.Table) (o : ℕ) (bounded : Bounded a) (q : ℕ) (low : Lowest (bitXor (u .named) 65535) (a .states) q) where
   module _ (h : Header) (t : Table) (opens : Opens a h) (g : Holds h t u) where
-    states-are : h .states ≡ a .states
-    states-are = sym (ap (λ a. a .states) opens)
+    count : h .states ≡ a .states
+    count = states-are a h opens
 
     lowest : Lowest (bitXor (u .named) 65535) (h .states) q
-    lowest = subst (λ n. Lowest (bitXor (u .named) 65535) n q) (sym states-are) low
+    lowest = subst (λ n. Lowest (bitXor (u .named) 65535) n q) (sym count) low
 
     unnamed : q < a .states → noBody h t o ≡ some (Body o q)
-    unnamed l = first-missing (u .named) (h .states) q (omega (arith, states-are, bounded .states-le)) lowest (t .named) (Body o) (λ p k. g .named p (omega (arith, states-are, bounded .states-le))) (omega (arith, states-are))
+    unnamed l = first-missing (u .named) (h .states) q (omega (arith, count, bounded .states-le)) lowest (t .named) (Body o) (λ p k. g .named p (omega (arith, count, bounded .states-le))) (omega (arith, count))
 
     all-named : a .states ≤ q → noBody h t o ≡ none
-    all-named l = none-missing (u .named) (h .states) q (omega (arith, states-are, bounded .states-le)) lowest (t .named) (Body o) (λ p k. g .named p (omega (arith, states-are, bounded .states-le))) (omega (arith, states-are))
+    all-named l = none-missing (u .named) (h .states) q (omega (arith, count, bounded .states-le)) lowest (t .named) (Body o) (λ p k. g .named p (omega (arith, count, bounded .states-le))) (omega (arith, count))
 
   pub whole-no-body : q < a .states → (r : Reading) → r ≡ told (refuses (Body o q)) → WholeAnswer a u o r
   whole-no-body l r e h t opens g = e ∙ sym (ap (λ x. told (option x (option (noEdge h t) (gives (made h t)) refuses) refuses)) (unnamed h t opens g l))
@@ -117,10 +117,10 @@ module _ (a : Automaton) (u : Code.Table) (o : ℕ) (bounded : Bounded a) (q : �
     judged : (x : Gap) → GapAnswer (u .given) (a .states) L x → (h : Header) (t : Table) → Opens a h → Holds h t u
         → whole h t o ≡ option (gapTold x) (gives (made h t)) refuses
     judged x gap h t opens g =
-        let eL : letters h ≡ L = count-is a h L bounded opens count in
+        let eL : letters h ≡ L = letters-are a h opens L bounded count in
         ap (λ y. option y (option (noEdge h t) (gives (made h t)) refuses) refuses) (all-named h t opens g all)
         ∙ ap (λ y. option y (gives (made h t)) refuses)
-        (gap h t (states-are h t opens g) eL (λ q l hq hl. g .given q l (omega (arith, bounded .states-le)) (omega (arith, eL))))
+        (gap h t (states-are a h opens) eL (λ q l hq hl. g .given q l (omega (arith, bounded .states-le)) (omega (arith, eL))))
 
     pub whole-gap : (p l : ℕ) → GapAnswer (u .given) (a .states) L (At p l) → (r : Reading) → r ≡ told (refuses (NoEdge p l)) → WholeAnswer a u o r
     whole-gap p l gap r e h t opens g = e ∙ sym (ap told (judged (At p l) gap h t opens g))

@@ -8,7 +8,7 @@ use denote.Ref.{now}
 use Rattle.hoa_text.specs.Header.{Header}
 use Rattle.hoa_body.specs.Answers.{Opens}
 use Rattle.hoa_body.specs.Parts.{PartAnswer}
-use Rattle.hoa_body.proofs.EdgeLaws.{count-is}
+use Rattle.hoa_body.proofs.OpenedLaws.{letters-are}
 use Rattle.hoa_body.proofs.BodyLaws.{Turned, not-turned, turned, turned-ended, turned-refused}
 use Rattle.hoa_body.proofs.parts_from.Statement.{statement}
 use Rattle.hoa_body.proofs.parts_from.Tie as tie
@@ -81,7 +81,7 @@ loop-again-2 c =
     let x = l .inv h o in
     let y = p .means h (x .table) o (x .holds) in
     turned h _ _ _ _ x _ _ _ (y .is)
-    (c .with-edge .ensures h (x .table) (y .for) (count-is (a .opened) h _ (c .before .before .before .before .before .before .before .before .before .pre) o (c .before .before .before .before .before .before .before .power-of-two .ensures .0)) (y .letters) (x .holds))
+    (c .with-edge .ensures h (x .table) (y .for) (letters-are (a .opened) h o _ (c .before .before .before .before .before .before .before .before .before .pre) (c .before .before .before .before .before .before .before .power-of-two .ensures .0)) (y .letters) (x .holds))
 
 enum-known-end : tie.Need-enum-known-end Inv-loop μ-loop
 enum-known-end c = search needs
