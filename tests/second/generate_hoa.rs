@@ -5,22 +5,32 @@ use crate::generate::{names, random_automaton, random_sizes, Random};
 
 type Token = Vec<u8>;
 
-/// About half are valid.
+/// Nearly half are valid.
 pub fn hoa_text(random: &mut Random) -> Vec<u8> {
-    let valid = random.below(100) < 45;
+    parts_and_text(random).1
+}
+
+/// The parts, and the text that they give, perhaps with damage to its tokens or bytes.
+fn parts_and_text(random: &mut Random) -> (Parts, Vec<u8>) {
+    let valid = random.below(100) < 37;
     let (states, k, sets) = random_sizes(random);
     let automaton = random_automaton(random, states, k, sets);
     let mut parts = Parts::of(random, &automaton);
     if valid {
         let text = lay_out(random, &parts.tokens());
-        return if random.one_in(100) { lengthened(text, 65_536) } else { text };
+        let text = if random.one_in(100) { lengthened(text, 65_536) } else { text };
+        return (parts, text);
     }
-    match random.below(3) {
-        0 => {
+    let text = match random.below(7) {
+        0 | 1 => {
             parts.damage(random, &automaton);
             lay_out(random, &parts.tokens())
         }
-        1 => {
+        2 => {
+            parts.damage_short_forms(random, &automaton);
+            lay_out(random, &parts.tokens())
+        }
+        3 | 4 => {
             let mut tokens = parts.tokens();
             damage_tokens(random, &mut tokens);
             lay_out(random, &tokens)
@@ -30,7 +40,8 @@ pub fn hoa_text(random: &mut Random) -> Vec<u8> {
             damage_bytes(random, &mut text);
             text
         }
-    }
+    };
+    (parts, text)
 }
 
 fn words(text: &str) -> Vec<Token> {
@@ -44,17 +55,38 @@ fn quoted(text: &[u8]) -> Token {
 // ---------------------------------------------------------------------------------------
 // The parts of a text
 
-/// The header's items, the states, and each state's edges, as tokens.
+/// The header's items, and the states, as tokens.
 struct Parts {
     opening: Vec<Token>,
     items: Vec<Vec<Token>>,
-    states: Vec<(Vec<Token>, Vec<Vec<Token>>)>,
+    states: Vec<State>,
     closing: Vec<Token>,
+}
+
+/// A state's number, what stands before its edges, and the edges.
+#[derive(Clone)]
+struct State {
+    number: usize,
+    head: Vec<Token>,
+    edges: Vec<Vec<Token>>,
+}
+
+impl State {
+    /// Whether the edges have no labels.
+    fn is_listed(&self) -> bool {
+        self.edges.first().is_some_and(|edge| edge[0] != b"[")
+    }
 }
 
 impl Parts {
     fn of(random: &mut Random, automaton: &Automaton) -> Parts {
-        let mut states: Vec<_> = (0..automaton.states()).map(|q| state_part(random, automaton, q)).collect();
+        // All states are listed, some, or none.
+        let listed_of_four = random.pick(&[0, 0, 0, 1, 4]);
+        let mut states: Vec<State> = Vec::new();
+        for q in 0..automaton.states() {
+            let listed = random.below(4) < listed_of_four;
+            states.push(state_part(random, automaton, q, listed));
+        }
         if random.one_in(2) {
             random.shuffle(&mut states);
         }
@@ -65,9 +97,9 @@ impl Parts {
         let mut all = self.opening.clone();
         all.extend(self.items.concat());
         all.extend(words("--BODY--"));
-        for (head, edges) in &self.states {
-            all.extend(head.clone());
-            all.extend(edges.concat());
+        for state in &self.states {
+            all.extend(state.head.clone());
+            all.extend(state.edges.concat());
         }
         all.extend(self.closing.clone());
         all
@@ -79,14 +111,15 @@ impl Parts {
             return;
         }
         let at = random.below(self.states.len());
-        match random.below(16) {
+        let labelled = self.state_of_kind(random, false);
+        match random.below(17) {
             0 => drop_one(random, &mut self.items),
             1 => double_one(random, &mut self.items),
             2 => drop_one(random, &mut self.states),
             3 => double_one(random, &mut self.states),
-            4 | 14 => drop_one(random, &mut self.states[at].1),
-            5 => double_one(random, &mut self.states[at].1),
-            6 | 15 => self.states[at].1.insert(0, any_edge(random, automaton)),
+            4 | 14 => drop_one(random, &mut self.states[at].edges),
+            5 => double_one(random, &mut self.states[labelled].edges),
+            6 | 15 | 16 => self.states[labelled].edges.insert(0, any_edge(random, automaton)),
             7 => self.replace(b"AP:", names_item(odd_names(random))),
             8 => {
                 let item = odd_acceptance(random, automaton.sets);
@@ -131,22 +164,108 @@ impl Parts {
                 label.push(b")".to_vec());
             }
         }
-        let at = random.below(self.states.len());
+        let at = self.state_of_kind(random, false);
         if random.one_in(2) {
-            self.states[at].1.clear();
+            self.states[at].edges.clear();
         }
-        self.states[at].1.push(edge_anywhere(random, label, automaton));
+        self.states[at].edges.push(edge_anywhere(random, label, automaton));
     }
 
-    /// A form of a state or an edge that HOA has and that is not read here, or another number.
+    /// A form of a state that HOA has and that is not read here, or another number.
     fn odd_state(&mut self, random: &mut Random) {
         let at = random.below(self.states.len());
         let odd = words(random.pick(&[
-            "State: [t] 0", "State: 0 {0}", "State: 0 0", "State: 0 \"x\" \"y\"", "State:", "State: 00",
-            "State: 16", "State: t", "States: 1", "State: 18446744073709551616",
+            "State: [t] 0", "State: 0 \"x\" \"y\"", "State:", "State: 00", "State: 16", "State: t", "States: 1",
+            "State: 18446744073709551616",
         ]));
-        self.states[at].0 = odd;
+        self.states[at].head = odd;
     }
+
+    /// The place of a state that is listed or not, if there is one; else of any.
+    fn state_of_kind(&self, random: &mut Random, listed: bool) -> usize {
+        let all = 0..self.states.len();
+        let of_kind: Vec<usize> = all.filter(|&at| self.states[at].is_listed() == listed).collect();
+        if of_kind.is_empty() {
+            return random.below(self.states.len());
+        }
+        random.pick(&of_kind)
+    }
+
+    /// Something that has to do with edges without labels or with the marks of a state: mostly it
+    /// is wrong, or else it is valid and at times another table.
+    fn damage_short_forms(&mut self, random: &mut Random, automaton: &Automaton) {
+        let at = random.below(self.states.len());
+        match random.below(9) {
+            0 | 1 => other_kind(random, automaton, &mut self.states[at].edges),
+            2..=5 => {
+                let edges = self.edges_of_listed(random, automaton);
+                damage_list(random, automaton, edges);
+            }
+            6 => {
+                // A second time, which is seen before the marks are read.
+                let mut again = self.states[at].clone();
+                odd_marks(random, automaton, &mut again.head);
+                self.states.push(again);
+            }
+            _ => odd_marks(random, automaton, &mut self.states[at].head),
+        }
+    }
+
+    /// The edges of a listed state; if there is none, one becomes such.
+    fn edges_of_listed(&mut self, random: &mut Random, automaton: &Automaton) -> &mut Vec<Vec<Token>> {
+        let at = self.state_of_kind(random, true);
+        let state = &mut self.states[at];
+        if !state.is_listed() {
+            *state = state_part(random, automaton, state.number, true);
+        }
+        &mut state.edges
+    }
+}
+
+/// One listed edge too many or too few, two exchanged, or one with a label that never holds.
+fn damage_list(random: &mut Random, automaton: &Automaton, edges: &mut Vec<Vec<Token>>) {
+    match random.below(4) {
+        0 => {
+            let to = random.pick(&[0, automaton.states() - 1, automaton.states(), 16]);
+            edges.push(words(&to.to_string()));
+        }
+        1 => drop_one(random, edges),
+        2 => {
+            let one = random.below(edges.len());
+            let other = (one + random.within(1, edges.len().max(2) - 1)) % edges.len();
+            edges.swap(one, other);
+        }
+        _ => {
+            let label = label(random, automaton.propositions(), 0);
+            edges.insert(random.below(edges.len() + 1), edge_anywhere(random, label, automaton));
+        }
+    }
+}
+
+/// One edge loses its label, or is given one, at times one that cannot be read.
+fn other_kind(random: &mut Random, automaton: &Automaton, edges: &mut [Vec<Token>]) {
+    let edge = &mut edges[random.below(edges.len())];
+    if let Some(end) = edge.iter().position(|token| token == b"]") {
+        edge.drain(..=end);
+        return;
+    }
+    let k = automaton.propositions();
+    let letters = random.next() as u16 & full(k);
+    let odd = random.one_in(4);
+    let label = if odd { words(random.pick(&["4", "00", "@a", "t t", "("])) } else { label(random, k, letters) };
+    *edge = [words("["), label, words("]"), edge.clone()].concat();
+}
+
+/// Other marks on a `State:` line: none, a set twice or too high, or where marks do not stand.
+fn odd_marks(random: &mut Random, automaton: &Automaton, head: &mut Vec<Token>) {
+    let too_high = format!("{{ {} }}", automaton.sets);
+    let with_too_high = format!("\"x\" {{ 0 {} }}", automaton.sets);
+    head.truncate(2);
+    head.extend(words(random.pick(&[
+        "{ }", "{ 0 }", "{ 0 0 }", "\"x\" { 0 }", "\"x\" { }", &too_high, &with_too_high, "{ 4 }", "{ 00 }",
+        "{ 18446744073709551616 }", "{ t }", "{", "}", "{ 0 } { 0 }", "{ } { }", "{ 0 } \"x\"", "{ } \"x\"",
+        "\"x\" { } \"y\"", "{ } 00", "{ 0 } 16",
+    ])));
 }
 
 fn drop_one<T>(random: &mut Random, list: &mut Vec<T>) {
@@ -249,21 +368,56 @@ fn odd_acceptance(random: &mut Random, sets: usize) -> Vec<Token> {
 // ---------------------------------------------------------------------------------------
 // States, edges, labels
 
-fn state_part(random: &mut Random, automaton: &Automaton, state: usize) -> (Vec<Token>, Vec<Vec<Token>>) {
-    let mut head = words(&format!("State: {state}"));
+fn state_part(random: &mut Random, automaton: &Automaton, q: usize, listed: bool) -> State {
+    let of_state = marks_of_state(random, automaton, q);
+    let mut head = words(&format!("State: {q}"));
     if random.one_in(4) {
         head.push(quoted(&any_text(random)));
     }
+    head.extend(marks_part(random, of_state));
+    let edges = if listed { listed_edges } else { labelled_edges };
+    State { number: q, head, edges: edges(random, automaton, q, of_state) }
+}
+
+/// Some of the marks that all transitions of the state have: "`State: 0 {1}` puts set 1 on every
+/// transition that leaves state 0" (document 02, E1)
+fn marks_of_state(random: &mut Random, automaton: &Automaton, q: usize) -> u8 {
+    let shared = automaton.table[q].iter().fold(automaton.all_marks(), |shared, edge| shared & edge.marks);
+    match random.below(4) {
+        0 | 1 => 0,
+        2 => shared,
+        _ => shared & random.next() as u8,
+    }
+}
+
+/// The transition without marks of its state; at times it repeats some.
+fn without(random: &mut Random, edge: Transition, of_state: u8) -> Transition {
+    let any = random.next() as u8;
+    let repeated = random.pick(&[0, 0, 0, any, u8::MAX]);
+    Transition { marks: edge.marks & (!of_state | repeated), ..edge }
+}
+
+/// "A state whose edges have no labels lists them in letter order, 0 first." (document 02, E1)
+fn listed_edges(random: &mut Random, automaton: &Automaton, q: usize, of_state: u8) -> Vec<Vec<Token>> {
+    let mut edges = Vec::new();
+    for &transition in &automaton.table[q] {
+        let transition = without(random, transition, of_state);
+        edges.push(destination(random, transition));
+    }
+    edges
+}
+
+fn labelled_edges(random: &mut Random, automaton: &Automaton, q: usize, of_state: u8) -> Vec<Vec<Token>> {
     let mut edges: Vec<Vec<Token>> = Vec::new();
     let mut left: Vec<usize> = (0..automaton.letters()).collect();
     while let Some(&first) = left.first() {
-        let transition = automaton.step(state, first);
+        let transition = automaton.step(q, first);
         let alone = random.one_in(4);
-        let (taken, rest): (Vec<usize>, Vec<usize>) = left
-            .iter()
-            .partition(|&&letter| letter == first || !alone && automaton.step(state, letter) == transition);
+        let (taken, rest): (Vec<usize>, Vec<usize>) =
+            left.iter().partition(|&&letter| letter == first || !alone && automaton.step(q, letter) == transition);
         let letters = taken.iter().fold(0u16, |set, letter| set | 1 << letter);
         let label = label(random, automaton.propositions(), letters);
+        let transition = without(random, transition, of_state);
         edges.push(edge_of(random, label, transition));
         left = rest;
     }
@@ -272,7 +426,7 @@ fn state_part(random: &mut Random, automaton: &Automaton, state: usize) -> (Vec<
         edges.push(edge_anywhere(random, label, automaton));
     }
     random.shuffle(&mut edges);
-    (head, edges)
+    edges
 }
 
 /// An edge with this label, to any state, with any marks.
@@ -289,18 +443,26 @@ fn any_edge(random: &mut Random, automaton: &Automaton) -> Vec<Token> {
 }
 
 fn edge_of(random: &mut Random, label: Vec<Token>, transition: Transition) -> Vec<Token> {
-    let mut marks: Vec<usize> = (0..MAX_SETS).filter(|set| transition.marks >> set & 1 == 1).collect();
+    [words("["), label, words("]"), destination(random, transition)].concat()
+}
+
+/// The destination and the marks: all there is of a listed edge.
+fn destination(random: &mut Random, transition: Transition) -> Vec<Token> {
+    [words(&transition.to.to_string()), marks_part(random, transition.marks)].concat()
+}
+
+/// The marks in any order, perhaps one twice; where there are none, at times two braces.
+fn marks_part(random: &mut Random, marks: u8) -> Vec<Token> {
+    let mut marks: Vec<usize> = (0..MAX_SETS).filter(|set| marks >> set & 1 == 1).collect();
+    if marks.is_empty() && !random.one_in(10) {
+        return Vec::new();
+    }
     if !marks.is_empty() && random.one_in(6) {
         marks.push(random.pick(&marks.clone()));
     }
     random.shuffle(&mut marks);
-    let mut edge = [words("["), label, words(&format!("] {}", transition.to))].concat();
-    if !marks.is_empty() || random.one_in(10) {
-        edge.extend(words("{"));
-        edge.extend(marks.iter().map(|mark| mark.to_string().into_bytes()));
-        edge.extend(words("}"));
-    }
-    edge
+    let listed: Vec<String> = marks.iter().map(|mark| mark.to_string()).collect();
+    words(&format!("{{ {} }}", listed.join(" ")))
 }
 
 fn full(k: usize) -> u16 {
@@ -444,10 +606,11 @@ fn blanks(random: &mut Random, style: usize, before: &Token, token: &Token) -> V
     }
 }
 
-/// As tools print it: items, states and edges on a line each, labels without blanks.
+/// As tools print it: items, states and edges on a line each (of the listed edges those that come
+/// after marks), labels without blanks.
 fn as_printed<'a>(before: &Token, token: &Token, least: &'a [u8]) -> &'a [u8] {
     let item = token.ends_with(b":") || token.starts_with(b"--") || before.starts_with(b"--");
-    if item || token == b"[" {
+    if item || token == b"[" || before == b"}" {
         return b"\n";
     }
     let tight = |token: &Token| token.len() == 1 && b"!&|()[]{}".contains(&token[0]);
@@ -551,29 +714,98 @@ fn any_byte(random: &mut Random) -> u8 {
 mod tests {
     use super::*;
     use crate::hoa;
+    use std::collections::BTreeMap;
+
+    fn listed_states(parts: &Parts) -> usize {
+        parts.states.iter().filter(|state| state.is_listed()).count()
+    }
+
+    /// What stands between braces.
+    fn sets(tokens: &[Token]) -> Vec<&Token> {
+        tokens.iter().skip_while(|token| *token != b"{").skip(1).take_while(|token| *token != b"}").collect()
+    }
+
+    fn has_marked_state(parts: &Parts) -> bool {
+        parts.states.iter().any(|state| !sets(&state.head).is_empty())
+    }
+
+    /// Whether a set stands on a state's line and on one of its edges.
+    fn has_repeated_mark(parts: &Parts) -> bool {
+        let repeats =
+            |state: &State, edge: &Vec<Token>| sets(edge).iter().any(|set| sets(&state.head).contains(set));
+        parts.states.iter().any(|state| state.edges.iter().any(|edge| repeats(state, edge)))
+    }
 
     #[test]
     fn valid_texts_read_as_meant() {
         let mut random = Random::new(4);
+        let (mut all_listed, mut some_listed, mut repeated, mut left_out) = (0, 0, 0, 0);
         for _ in 0..400 {
             let (states, k, sets) = random_sizes(&mut random);
             let automaton = random_automaton(&mut random, states, k, sets);
-            let tokens = Parts::of(&mut random, &automaton).tokens();
-            let text = lay_out(&mut random, &tokens);
-            assert!(hoa::read(&text) == Ok(automaton), "{}", String::from_utf8_lossy(&text));
+            let mut parts = Parts::of(&mut random, &automaton);
+            let text = lay_out(&mut random, &parts.tokens());
+            let due = Ok(automaton);
+            assert!(hoa::read(&text) == due, "{}", String::from_utf8_lossy(&text));
+            all_listed += (listed_states(&parts) == states) as usize;
+            some_listed += (1..states).contains(&listed_states(&parts)) as usize;
+            repeated += has_repeated_mark(&parts) as usize;
+            // Without the marks of the states the text means another table.
+            parts.states.iter_mut().for_each(|state| state.head.truncate(2));
+            left_out += (hoa::read(&lay_out(&mut random, &parts.tokens())) != due) as usize;
         }
+        assert!(all_listed > 40 && some_listed > 20, "{all_listed} and {some_listed} of 400");
+        assert!(repeated > 20 && left_out > 40, "{repeated} and {left_out} of 400");
     }
 
     #[test]
     fn all_refusals_of_the_reader_occur() {
         let mut random = Random::new(5);
-        let mut count = [0; 8];
+        let (mut count, mut with_listed, mut with_marked) = ([0; 8], [0; 8], [0; 8]);
         for _ in 0..3000 {
-            match hoa::read(&hoa_text(&mut random)) {
-                Ok(_) => count[0] += 1,
-                Err(refusal) => count[refusal.number as usize] += 1,
-            }
+            let (parts, text) = parts_and_text(&mut random);
+            let number = hoa::read(&text).err().map_or(0, |refusal| refusal.number as usize);
+            count[number] += 1;
+            with_listed[number] += (listed_states(&parts) > 0) as usize;
+            with_marked[number] += has_marked_state(&parts) as usize;
         }
         assert!(count.iter().all(|&times| times > 20), "{count:?}");
+        assert!(with_listed.iter().all(|&times| times > 5), "{with_listed:?}");
+        assert!(with_marked.iter().all(|&times| times > 5), "{with_marked:?}");
+    }
+
+    #[test]
+    fn damage_of_short_forms_has_all_ends() {
+        let mut random = Random::new(6);
+        let mut ends: BTreeMap<&str, usize> = BTreeMap::new();
+        for _ in 0..2000 {
+            let (states, k, sets) = random_sizes(&mut random);
+            let automaton = random_automaton(&mut random, states, k, sets);
+            let mut parts = Parts::of(&mut random, &automaton);
+            parts.damage_short_forms(&mut random, &automaton);
+            let text = lay_out(&mut random, &parts.tokens());
+            let end = match hoa::read(&text) {
+                Ok(read) if read == automaton => "the same table",
+                Ok(_) => "another table",
+                Err(Refusal { number: 1, a, .. }) => match text[a as usize..] {
+                    [b'[', ..] => "1 at a label",
+                    [b'1', b'6', ..] => "1 at an undeclared state",
+                    [b'0'..=b'9', ..] => "1 at a number",
+                    [b'"', ..] => "1 at a text",
+                    [b'{', ..] => "1 at marks",
+                    _ => "1 elsewhere",
+                },
+                Err(Refusal { number: 4, .. }) => "4",
+                Err(Refusal { number: 5, .. }) => "5",
+                Err(Refusal { number: 7, .. }) => "7",
+                Err(_) => "another refusal",
+            };
+            *ends.entry(end).or_default() += 1;
+        }
+        let due = [
+            "the same table", "another table", "1 at a label", "1 at an undeclared state", "1 at a number",
+            "1 at a text", "1 at marks", "4", "5", "7",
+        ];
+        assert!(due.iter().all(|end| ends.get(end) > Some(&20)), "{ends:?}");
     }
 }

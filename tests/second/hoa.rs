@@ -142,9 +142,9 @@ pub fn read(text: &[u8]) -> Result<Automaton, Refusal> {
     }
     let mut reader = Reader { text, at: 0 };
     let header = reader.header()?;
-    let rows = reader.body(&header)?;
+    let states = reader.body(&header)?;
     reader.only_blanks_follow()?;
-    let table = judge_whole(text, rows)?;
+    let table = judge_whole(text, states)?;
     Ok(Automaton { start: header.start, sets: header.sets, names: header.names, table })
 }
 
@@ -171,8 +171,23 @@ struct Items {
     sets: Option<usize>,
 }
 
-/// The edges of one state so far, by letter.
-type Row = Vec<Option<Transition>>;
+/// Whether an edge has a label.
+#[derive(Clone, Copy, PartialEq)]
+enum Form {
+    Labelled,
+    Listed,
+}
+
+/// A state while its edges are read.
+#[derive(Clone)]
+struct State {
+    /// The marks of its `State:`.
+    marks: u8,
+    /// The kind of its edges, from the first one on.
+    form: Option<Form>,
+    /// The edges so far, by letter.
+    row: Vec<Option<Transition>>,
+}
 
 impl<'a> Reader<'a> {
     fn peek(&self) -> Result<Token<'a>, Refusal> {
@@ -343,52 +358,85 @@ impl<'a> Reader<'a> {
 
     /// "In the body each state has one `State:`, its number and perhaps a quoted text, which
     /// is dropped; states may come in any order."
-    fn body(&mut self, header: &Header) -> Result<Vec<Option<Row>>, Refusal> {
-        let mut rows: Vec<Option<Row>> = vec![None; header.states];
+    fn body(&mut self, header: &Header) -> Result<Vec<Option<State>>, Refusal> {
+        let mut states: Vec<Option<State>> = vec![None; header.states];
         let mut current = None;
         loop {
-            let next = self.take()?;
+            let next = self.peek()?;
             match (next.kind, current) {
-                (Kind::Item(b"State:"), _) => current = Some(self.state(header, &mut rows)?),
-                (Kind::Mark(b'['), Some(state)) => {
-                    let row: &mut Row = rows[state].as_mut().unwrap();
-                    self.edge(header, state, row)?;
+                (Kind::Item(b"State:"), _) => current = Some(self.state(header, &mut states)?),
+                (Kind::Mark(b'['), Some(q)) => self.labelled_edge(header, q, states[q].as_mut().unwrap())?,
+                (Kind::Number(_), Some(q)) => self.listed_edge(header, states[q].as_mut().unwrap())?,
+                (Kind::End, _) => {
+                    self.take()?;
+                    return Ok(states);
                 }
-                (Kind::End, _) => return Ok(rows),
                 _ => return Err(Refusal::at(1, next.at)),
             }
         }
     }
 
-    fn state(&mut self, header: &Header, rows: &mut [Option<Row>]) -> Result<usize, Refusal> {
-        let (at, state) = self.declared(header.states)?;
+    fn state(&mut self, header: &Header, states: &mut [Option<State>]) -> Result<usize, Refusal> {
+        self.expect(Kind::Item(b"State:"))?;
+        let (at, q) = self.declared(header.states)?;
         // "a state's body twice (offset of the second number)": 5.
-        if rows[state].is_some() {
-            return Err(Refusal::new(5, at as u64, state as u64));
+        if states[q].is_some() {
+            return Err(Refusal::new(5, at as u64, q as u64));
         }
-        rows[state] = Some(vec![None; 1 << header.names.len()]);
         if let Kind::Text(_) = self.peek()?.kind {
             self.take()?;
         }
-        Ok(state)
+        // "`State: 0 {1}` puts set 1 on every transition that leaves state 0" (document 02, E1)
+        let marks = self.perhaps_marks(header.sets)?;
+        states[q] = Some(State { marks, form: None, row: vec![None; 1 << header.names.len()] });
+        Ok(q)
     }
 
-    /// "Every edge is `[label] destination` and perhaps `{marks}`"; the `[` is taken.
-    fn edge(&mut self, header: &Header, state: usize, row: &mut Row) -> Result<(), Refusal> {
+    /// "Every edge is `[label] destination` and perhaps `{marks}`"
+    fn labelled_edge(&mut self, header: &Header, q: usize, state: &mut State) -> Result<(), Refusal> {
+        let opening = self.expect(Kind::Mark(b'['))?;
+        state.keep_to(Form::Labelled, opening.at)?;
         let letters = self.any_of(header.names.len(), 0)?;
         self.expect(Kind::Mark(b']'))?;
-        let (_, to) = self.declared(header.states)?;
         // 6 is "judged at the closing brace or, without marks, before the next token".
-        self.at = skip(self.text, self.at, is_blank);
-        let marks = if self.text.get(self.at) == Some(&b'{') { self.marks(header.sets)? } else { 0 };
-        for (letter, edge) in row.iter_mut().enumerate().filter(|(letter, _)| letters >> letter & 1 == 1) {
+        let transition = self.transition(header, state.marks)?;
+        for (letter, edge) in state.row.iter_mut().enumerate().filter(|(letter, _)| letters >> letter & 1 == 1) {
             // "second edge for a letter, the lowest such of that edge": 6.
             if edge.is_some() {
-                return Err(Refusal::new(6, state as u64, letter as u64));
+                return Err(Refusal::new(6, q as u64, letter as u64));
             }
-            *edge = Some(Transition { to, marks });
+            *edge = Some(transition);
         }
         Ok(())
+    }
+
+    /// "A state whose edges have no labels lists them in letter order, 0 first." (document 02, E1)
+    fn listed_edge(&mut self, header: &Header, state: &mut State) -> Result<(), Refusal> {
+        let at = self.peek()?.at;
+        state.keep_to(Form::Listed, at)?;
+        // "and so is an unlabelled edge after the last letter, both before the destination is
+        // judged" (document 02, E1)
+        let Some(letter) = state.row.iter().position(|edge| edge.is_none()) else {
+            return Err(Refusal::at(1, at));
+        };
+        state.row[letter] = Some(self.transition(header, state.marks)?);
+        Ok(())
+    }
+
+    /// The destination and perhaps marks, "joined with the edge's own marks" (document 02, E1).
+    fn transition(&mut self, header: &Header, of_state: u8) -> Result<Transition, Refusal> {
+        let (_, to) = self.declared(header.states)?;
+        let own = self.perhaps_marks(header.sets)?;
+        Ok(Transition { to, marks: of_state | own })
+    }
+
+    /// The marks, if a brace comes next; what else comes next is not yet read.
+    fn perhaps_marks(&mut self, sets: usize) -> Result<u8, Refusal> {
+        self.at = skip(self.text, self.at, is_blank);
+        if self.text.get(self.at) == Some(&b'{') {
+            return self.marks(sets);
+        }
+        Ok(0)
     }
 
     /// "a mark listed twice counts once"
@@ -452,6 +500,17 @@ impl<'a> Reader<'a> {
     }
 }
 
+impl State {
+    /// "One state may not mix both kinds: the first edge of the other kind is refused with 1"
+    /// (document 02, E1)
+    fn keep_to(&mut self, form: Form, at: usize) -> Result<(), Refusal> {
+        if *self.form.get_or_insert(form) != form {
+            return Err(Refusal::at(1, at));
+        }
+        Ok(())
+    }
+}
+
 impl Items {
     /// "at `--BODY--` an item missing": 3; "a start (judged at `--BODY--`, after 3)": 4.
     fn judge(self, at: usize) -> Result<Header, Refusal> {
@@ -488,16 +547,17 @@ fn letters_with(proposition: usize) -> u16 {
 
 /// "missing states and edges are judged after the whole text": "at the end, the lowest state
 /// without one (offset: text length)": 5; "no edge, lowest state then letter, after 5": 7.
-fn judge_whole(text: &[u8], rows: Vec<Option<Row>>) -> Result<Vec<Vec<Transition>>, Refusal> {
-    if let Some(state) = rows.iter().position(|row| row.is_none()) {
-        return Err(Refusal::new(5, text.len() as u64, state as u64));
+/// "Too few give 7." (document 02, E1)
+fn judge_whole(text: &[u8], states: Vec<Option<State>>) -> Result<Vec<Vec<Transition>>, Refusal> {
+    if let Some(q) = states.iter().position(|state| state.is_none()) {
+        return Err(Refusal::new(5, text.len() as u64, q as u64));
     }
     let mut table = Vec::new();
-    for (state, row) in rows.into_iter().flatten().enumerate() {
-        if let Some(letter) = row.iter().position(|edge| edge.is_none()) {
-            return Err(Refusal::new(7, state as u64, letter as u64));
+    for (q, state) in states.into_iter().flatten().enumerate() {
+        if let Some(letter) = state.row.iter().position(|edge| edge.is_none()) {
+            return Err(Refusal::new(7, q as u64, letter as u64));
         }
-        table.push(row.into_iter().flatten().collect());
+        table.push(state.row.into_iter().flatten().collect());
     }
     Ok(table)
 }
@@ -592,6 +652,22 @@ mod tests {
         format!(
             "HOA: v1 States: 1 Start: 0 AP: {k} {names} Acceptance: {acceptance} --BODY-- State: 0 {edges} --END--"
         )
+    }
+
+    /// Two states, one proposition, two sets.
+    fn two_states(body: &str) -> String {
+        format!("HOA: v1 States: 2 Start: 0 AP: 1 \"a\" Acceptance: 2 Inf(0)&Inf(1) --BODY-- {body} --END--")
+    }
+
+    /// The destinations and marks, by state and letter.
+    fn table(text: &str) -> Vec<Vec<(usize, u8)>> {
+        let read = read(text.as_bytes()).expect("the text should be read");
+        read.table.iter().map(|row| row.iter().map(|edge| (edge.to, edge.marks)).collect()).collect()
+    }
+
+    /// Asserts that the text is refused with the number where `rest`, with which the body ends, begins.
+    fn refused_from(number: u8, text: &str, rest: &str) {
+        assert_eq!(refused(text), (number, place(text, &format!("{rest} --END--"), 0), 0), "{text}");
     }
 
     #[test]
@@ -701,6 +777,8 @@ mod tests {
         assert_eq!(refused(&text), (4, place(&text, "1}", 0), 0));
         let text = one_state(1, "1 Inf(0)", "[t] 0 [0] 0 {0} $");
         assert_eq!(refused(&text), (6, 0, 1));
+        let text = one_state(1, "1 Inf(0)", "[t] 0 [0] 0 0");
+        assert_eq!(refused(&text), (6, 0, 1));
         let text = one_state(1, "1 Inf(0)", "[t] 0 [f] 0 {}");
         assert!(read(text.as_bytes()).is_ok());
     }
@@ -718,6 +796,139 @@ mod tests {
         assert_eq!(refused(&text), (7, 1, 0));
         let text = body("[t] 0 State: 1");
         assert_eq!(refused(&text), (1, place(&text, "[", 0), 0));
+    }
+
+    #[test]
+    fn marks_of_a_state_join_the_edges_own() {
+        let text = two_states("State: 0 {1} [0] 1 {0} [!0] 0 State: 1 {1 1} [t] 0 {1}");
+        assert_eq!(table(&text), [[(0, 2), (1, 3)], [(0, 2), (0, 2)]]);
+        let text = two_states("State: 0 {1} 0 1 {0} State: 1 {0 1} 0 {} 1 {1}");
+        assert_eq!(table(&text), [[(0, 2), (1, 3)], [(0, 3), (1, 3)]]);
+        let text = two_states("State:0{}[t]0{0}State:1{}0 1");
+        assert_eq!(table(&text), [[(0, 1), (0, 1)], [(0, 0), (1, 0)]]);
+    }
+
+    #[test]
+    fn marks_of_a_state_end_with_it() {
+        let text = two_states("State: 1 {0 1} [t] 1 State: 0 [!0] 0 [0] 1 {1}");
+        assert_eq!(table(&text), [[(0, 0), (1, 2)], [(1, 3), (1, 3)]]);
+        let text = two_states("State: 0 {0} 1 0 State: 1 0 {1} 1");
+        assert_eq!(table(&text), [[(1, 1), (0, 1)], [(0, 2), (1, 0)]]);
+        // Nor do they begin with the edge before.
+        let text = two_states("State: 0 {0} [!0] 0 {1} [0] 0 State: 1 {0} 0 {1} 0");
+        assert_eq!(table(&text), [[(0, 3), (0, 1)], [(0, 3), (0, 1)]]);
+    }
+
+    #[test]
+    fn marks_of_a_state_come_after_its_text() {
+        let text = two_states("State: 0 \"x\" {1} [t] 0 State: 1 \"{0}\"{0}1 1");
+        assert_eq!(table(&text), [[(0, 2), (0, 2)], [(1, 1), (1, 1)]]);
+        for (before, rest) in [("{0} ", "\"x\" [t] 0"), ("\"x\" {} ", "\"y\" 0 0"), ("\"x\" ", "\"y\" {0}")] {
+            refused_from(1, &one_state(1, "1 Inf(0)", &format!("{before}{rest}")), rest);
+        }
+        for (before, rest) in [("{0} ", "{0} [t] 0"), ("{} ", "{} 0 0"), ("{0 ", "{0}} 0 0"), ("{0 ", "[t] 0")] {
+            refused_from(1, &one_state(1, "1 Inf(0)", &format!("{before}{rest}")), rest);
+        }
+        // Labels of states are not read.
+        refused_from(1, &two_states("State: 0 {0} 0 0 State: [0] 1"), "[0] 1");
+    }
+
+    #[test]
+    fn marks_of_a_state_that_are_refused() {
+        refused_from(4, &one_state(1, "1 Inf(0)", "{1} [t] 0"), "1} [t] 0");
+        refused_from(4, &one_state(1, "1 Inf(0)", "{0 0 99999999999999999999} 9"), "99999999999999999999} 9");
+        refused_from(4, &one_state(1, "0 t", "\"x\" {0} 0 0"), "0} 0 0");
+        refused_from(1, &one_state(1, "1 Inf(0)", "{00} 0 0"), "00} 0 0");
+        refused_from(1, &one_state(1, "1 Inf(0)", "{t} 0 0"), "t} 0 0");
+        // "a state's body twice (offset of the second number)": before its marks are read.
+        let text = two_states("State: 1 {0} 0 0 State: 1 {2} $");
+        assert_eq!(refused(&text), (5, place(&text, "1 {2}", 0), 1));
+    }
+
+    #[test]
+    fn listed_edges_are_in_letter_order() {
+        let text = one_state(2, "2 Inf(0)&Inf(1)", "0 0{0} 0 {1}0{1 0 1}");
+        assert_eq!(table(&text), [[(0, 0), (0, 1), (0, 2), (0, 3)]]);
+        let text = two_states("State: 1 1 0 {0} State: 0 0{1}1");
+        assert_eq!(table(&text), [[(0, 2), (1, 0)], [(1, 0), (0, 1)]]);
+        // With k = 0 there is one letter.
+        assert_eq!(table(&one_state(0, "1 Inf(0)", "0")), [[(0, 0)]]);
+        assert_eq!(table(&one_state(0, "1 Inf(0)", "{0}0")), [[(0, 1)]]);
+    }
+
+    #[test]
+    fn listed_edges_that_are_refused() {
+        refused_from(4, &two_states("State: 0 0 0 State: 1 0 2 {9}"), "2 {9}");
+        refused_from(4, &two_states("State: 0 0 0 State: 1 0 1 {2}"), "2}");
+        refused_from(1, &two_states("State: 0 0 0 State: 1 0 01"), "01");
+        refused_from(1, &two_states("State: 0 0 0 State: 1 0&1"), "&1");
+        refused_from(1, &two_states("State: 0 0 0 State: 1 0 {0} {1}"), "{1}");
+        // Where no state has begun.
+        refused_from(1, &two_states("0 State: 0 0 0"), "0 State: 0 0 0");
+        refused_from(1, &two_states("9"), "9");
+    }
+
+    /// "One state may not mix both kinds" (document 02, E1)
+    #[test]
+    fn both_kinds_in_one_state() {
+        for (before, rest) in [
+            ("[!0] 0 ", "0"),
+            ("[0] 0 {0} ", "0 {0}"),
+            ("[0] 0 ", "9"),
+            ("[0] 0 ", "00"),
+            ("[t] 0 ", "0"),
+            ("[f] 0 ", "0 0"),
+            ("[f] 0 ", "9"),
+            ("0 ", "[0] 0"),
+            ("0 {0} ", "[t] 0"),
+            ("0 ", "[f] 0 0"),
+            ("0 ", "[9] 9"),
+            ("0 0 ", "[f] 0"),
+            ("{0} 0 ", "[0] 0"),
+        ] {
+            refused_from(1, &one_state(1, "1 Inf(0)", &format!("{before}{rest}")), rest);
+        }
+        // Two states may be of two kinds, and a state without edges is of neither.
+        let text = two_states("State: 0 0 1 State: 1 [t] 0");
+        assert_eq!(table(&text), [[(0, 0), (1, 0)], [(0, 0), (0, 0)]]);
+        let text = two_states("State: 1 [0] 0 [f] 0 [!0] 1 State: 0 0 1");
+        assert_eq!(table(&text), [[(0, 0), (1, 0)], [(1, 0), (0, 0)]]);
+        assert_eq!(refused(&two_states("State: 0 State: 1 0 0")), (7, 0, 0));
+    }
+
+    /// "an unlabelled edge after the last letter" (document 02, E1)
+    #[test]
+    fn one_listed_edge_too_many() {
+        for (before, rest) in
+            [("0 0 ", "0"), ("0 0{0}", "0{9}"), ("0 0 ", "1"), ("{0} 0 0 ", "99999999999999999999")]
+        {
+            refused_from(1, &one_state(1, "1 Inf(0)", &format!("{before}{rest}")), rest);
+        }
+        refused_from(1, &one_state(0, "0 t", "0 0"), "0");
+        refused_from(1, &one_state(4, "0 t", &format!("{}1", "0 ".repeat(16))), "1");
+        refused_from(1, &two_states("State: 0 0 0 2 State: 1"), "2 State: 1");
+    }
+
+    #[test]
+    fn listed_edges_that_are_missing() {
+        assert_eq!(refused(&one_state(1, "0 t", "")), (7, 0, 0));
+        assert_eq!(refused(&one_state(2, "0 t", "0 0 0")), (7, 0, 3));
+        assert_eq!(refused(&one_state(4, "0 t", &"0 ".repeat(15))), (7, 0, 15));
+        assert_eq!(refused(&two_states("State: 1 0 State: 0 0 0")), (7, 1, 1));
+        assert_eq!(refused(&two_states("State: 1 State: 0 0")), (7, 0, 1));
+        let text = two_states("State: 0 0");
+        assert_eq!(refused(&text), (5, text.len() as u64, 1));
+    }
+
+    #[test]
+    fn the_short_forms_are_written_in_full() {
+        let text = two_states("State: 1 \"x\" {1} 1 0 {0} State: 0 {0} [t] 1");
+        let read_once = read(text.as_bytes()).unwrap();
+        let written = write(&read_once);
+        let lines = "HOA: v1\nStates: 2\nStart: 0\nAP: 1 \"a\"\nAcceptance: 2 Inf(0)&Inf(1)\n--BODY--\n\
+                     State: 0\n[!0] 1 {0}\n[0] 1 {0}\nState: 1\n[!0] 1 {1}\n[0] 0 {0 1}\n--END--\n";
+        assert_eq!(String::from_utf8(written.clone()).unwrap(), lines);
+        assert_eq!(read(&written).unwrap(), read_once);
     }
 
     #[test]
