@@ -82,27 +82,22 @@ module _ (q members v : ℕ) where
 
 -- ---- states
 
-pub holds-none : (a : Automaton) → HoldsNone a (record { named = 0; given = replicate 16 0; current = record { state = 16; shared = 0; labelled = false; listed = 0 }; destinations = a .destinations; marks = a .marks })
-holds-none a h o = record {
+pub holds-none : (a : Automaton) (c : Current) → currentOf c ≡ begun 16 0
+    → HoldsNone a (record { named = 0; given = replicate 16 0; current = c; destinations = a .destinations; marks = a .marks })
+holds-none a c e h o = record {
   named = λ q g. has-zero q;
   given = λ q l g k. ap (λ s. has s l) (getD-replicate 16 q 0 0 g) ∙ has-zero l;
-  current-is = refl;
+  current-is = ap (λ x. cond (ltb (x .state) 16) (some x) none) (sym e);
   destinations = ap (λ a. a .destinations) o;
   marks = ap (λ a. a .marks) o;
 }
 
-pub holds-state : (u : Table) (p m s : ℕ) → p < 16 → s ≡ 2 ^ p
-    → HoldsState u p m (record {
-      named = bitOr s (u .named);
-      given = u .given;
-      current = record { state = p; shared = m; labelled = false; listed = 0 };
-      destinations = u .destinations;
-      marks = u .marks;
-    })
-holds-state u p m s l e h t g = record {
-  named = λ q k. has-or s (u .named) q ∙ ap₂ (λ a b. a || b) (ap (λ n. has n q) e ∙ has-single p q) (g .named q k);
+pub holds-state : (u : Table) (p m s : ℕ) (c : Current) → p < 16 → s ≡ 2 ^ p → currentOf c ≡ begun p m
+    → HoldsState u p m (record { named = bitOr s (u .named); given = u .given; current = c; destinations = u .destinations; marks = u .marks })
+holds-state u p m s c l e k h t g = record {
+  named = λ q x. has-or s (u .named) q ∙ ap₂ (λ a b. a || b) (ap (λ n. has n q) e ∙ has-single p q) (g .named q x);
   given = g .given;
-  current-is = sym (ap (λ b. cond b (some (begun p m)) none) (lt-ltb p 16 l));
+  current-is = sym (ap (λ b. cond b (some (begun p m)) none) (lt-ltb p 16 l)) ∙ ap (λ x. cond (ltb (x .state) 16) (some x) none) (sym k);
   destinations = g .destinations;
   marks = g .marks;
 }

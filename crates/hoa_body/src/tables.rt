@@ -8,6 +8,8 @@ ghost use mathlib.Core.Path.{_≡_};
 ghost use mathlib.Core.Bool.{cond};
 ghost use Prim.Native.Nat.{_≤_, _<_};
 ghost use lib.ListN.{length};
+ghost use Rattle.hoa_text.specs.Body.{begun};
+ghost use Rattle.hoa_body.specs.Answers.{currentOf};
 ghost use Rattle.hoa_body.specs.Tables.{HoldsNone, HoldsState, HoldsEdge, Filled};
 
 pub fn no_states(opened: Automaton) -> Table
@@ -15,15 +17,11 @@ pub fn no_states(opened: Automaton) -> Table
 {
     let destinations = opened.destinations;
     let marks = opened.marks;
+    let current = begun(Automaton::STATES, 0);
     Table {
         named: 0,
         given: [0u16; Automaton::STATES],
-        current: Current {
-            state: Automaton::STATES,
-            shared: 0,
-            labelled: false,
-            listed: 0,
-        },
+        current,
         destinations,
         marks,
     }
@@ -33,16 +31,22 @@ pub fn with_state(table: Table, state: usize, marks: u8) -> Table
     requires { ⌜ state < 16 ⌝ }
     ensures { λ r. ⌜ HoldsState table state marks r ⌝ }
 {
-    let current = Current {
+    let mut next = table;
+    next.named = single(state) | table.named;
+    next.current = begun(state, marks);
+    next
+}
+
+// A state of whose edges none was read.
+fn begun(state: usize, marks: u8) -> Current
+    ensures { λ r. ⌜ currentOf r ≡ begun state marks ⌝ }
+{
+    Current {
         state,
         shared: marks,
         labelled: false,
         listed: 0,
-    };
-    let mut next = table;
-    next.named = single(state) | table.named;
-    next.current = current;
-    next
+    }
 }
 
 // An edge of the counted state, for the letters of the set among `letters`; the state's marks are joined with its own.
