@@ -15,7 +15,9 @@ pub mod LabelProgress
 pub mod HeaderProgress
 pub mod BodyProgress
 pub mod HeaderFits
+pub mod BodyInduction
 pub mod TableFits
+pub mod ListedFirst
 pub mod Made
 pub mod Accepted
 pub mod Offsets
