@@ -50,6 +50,14 @@ struct Token<'a> {
     kind: Kind<'a>,
 }
 
+/// The state whose edges may stand here: its marks, whether an edge had a label, and how many had none.
+struct Current {
+    state: usize,
+    shared: u8,
+    labelled: bool,
+    listed: usize,
+}
+
 struct Reader<'a> {
     text: &'a [u8],
     next: Token<'a>,
@@ -279,10 +287,10 @@ impl<'a> Reader<'a> {
     fn body(&mut self, a: &mut Automaton) -> Answer<()> {
         let letters = ((1u32 << (1 << a.propositions)) - 1) as u16;
         let mut given: [Option<u16>; STATES] = [None; STATES];
-        let mut current = None;
+        let mut current: Option<Current> = None;
         loop {
             let token = self.take();
-            match (token.kind, current) {
+            match (token.kind, &mut current) {
                 (Kind::Item(b"State"), _) => {
                     let (at, state) = self.number()?;
                     if state >= a.states {
@@ -292,14 +300,26 @@ impl<'a> Reader<'a> {
                         return Err(Refusal(5, at, state));
                     }
                     given[state] = Some(0);
-                    current = Some(state);
                     if let Kind::Quoted(_) = self.next.kind {
                         self.take();
                     }
+                    let shared = self.marks(a.sets)?;
+                    current = Some(Current { state, shared, labelled: false, listed: 0 });
                 }
-                (Kind::Sign(b'['), Some(state)) => {
-                    let before = given[state].unwrap_or(0);
-                    given[state] = Some(before | self.edge(a, state, letters, before)?);
+                (Kind::Sign(b'['), Some(current)) if current.listed == 0 => {
+                    current.labelled = true;
+                    let set = self.any(a.propositions, 0)? & letters;
+                    self.expect(Kind::Sign(b']'))?;
+                    let destination = self.below(a.states, 4)?;
+                    self.edge(a, current, set, destination, &mut given)?;
+                }
+                (Kind::Number(destination), Some(current)) if !current.labelled && current.listed < 1 << a.propositions => {
+                    if destination >= a.states {
+                        return Err(Refusal(4, token.at, 0));
+                    }
+                    let set = 1 << current.listed;
+                    current.listed += 1;
+                    self.edge(a, current, set, destination, &mut given)?;
                 }
                 (Kind::End, _) => return self.end(a, &given, letters),
                 _ => return Err(self.form(token)),
@@ -307,25 +327,31 @@ impl<'a> Reader<'a> {
         }
     }
 
-    /// Behind a `[`: the letters of the edge.
-    fn edge(&mut self, a: &mut Automaton, state: usize, letters: u16, given: u16) -> Answer<u16> {
-        let set = self.any(a.propositions, 0)? & letters;
-        self.expect(Kind::Sign(b']'))?;
-        let destination = self.below(a.states, 4)?;
-        let mut marks = 0;
-        if self.take_sign(b'{') {
-            while !self.take_sign(b'}') {
-                marks |= 1 << self.below(a.sets, 4)?;
-            }
+    /// Behind the destination of an edge for the letters of the set.
+    fn edge(&mut self, a: &mut Automaton, current: &Current, set: u16, destination: usize, given: &mut [Option<u16>; STATES]) -> Answer<()> {
+        let state = current.state;
+        let marks = current.shared | self.marks(a.sets)?;
+        let before = given[state].unwrap_or(0);
+        if set & before != 0 {
+            return Err(Refusal(6, state, (set & before).trailing_zeros() as usize));
         }
-        if set & given != 0 {
-            return Err(Refusal(6, state, (set & given).trailing_zeros() as usize));
-        }
+        given[state] = Some(before | set);
         for letter in (0..LETTERS).filter(|letter| set >> letter & 1 == 1) {
             a.destinations[state][letter] = destination as u8;
             a.marks[state][letter] = marks;
         }
-        Ok(set)
+        Ok(())
+    }
+
+    /// The marks that may stand next.
+    fn marks(&mut self, sets: usize) -> Answer<u8> {
+        let mut marks = 0;
+        if self.take_sign(b'{') {
+            while !self.take_sign(b'}') {
+                marks |= 1 << self.below(sets, 4)?;
+            }
+        }
+        Ok(marks)
     }
 
     // Labels give the set of letters that satisfy them, bit l for the letter l.

@@ -33,7 +33,8 @@ patterns =
     ∷ pattern (SolverForm 0) (seen 0) ∷ pattern (Literal 0) (seen 0) ∷ pattern (NoStep 0 0) (seen 0) ∷ pattern (Differ 0 0) (seen 0)
     ∷ pattern (Short 0 0) (seen 0) ∷ pattern (Propositions 0 0) (seen 0)
     ∷ pattern (Form 0) (seen 256) ∷ pattern (Size 65536) (seen 0) ∷ pattern (Size 0) (seen 48) ∷ pattern (Size 0) (seen 34)
-    ∷ pattern (Item 0) (seen 45) ∷ pattern (Item 0) (seen 34) ∷ pattern (Item 0) (seen 83) ∷ pattern (Body 0 0) (seen 256) ∷ [])
+    ∷ pattern (Item 0) (seen 45) ∷ pattern (Item 0) (seen 34) ∷ pattern (Item 0) (seen 83) ∷ pattern (Body 0 0) (seen 256) ∷ pattern (Form 0) (seen 48)
+    ∷ pattern (Form 0) (seen 91) ∷ [])
 
 abbrev pub at : ℕ → List ℕ
 at k = lineAt k patterns
@@ -51,7 +52,9 @@ there : {k : ℕ} {w : String} → at k ≡ bytes w → leb (most (at k)) 256 �
 there e f = record { is = e; fits = f }
 
 chosen : (x : Refusal) (p : Place) → Has (lineOf (codeOf x) (p .byte)) (pattern x p)
-chosen (Form o) p = either (eqb (p .byte) 256) (there refl refl) (there refl refl)
+chosen (Form o) p =
+    either (eqb (p .byte) 256) (there refl refl)
+    (either (leb 48 (p .byte) && leb (p .byte) 57) (there refl refl) (either (eqb (p .byte) 91) (there refl refl) (there refl refl)))
 chosen (Size o) p =
     either (eqb o 65536) (there refl refl)
     (either (leb 48 (p .byte) && leb (p .byte) 57) (there refl refl) (either (eqb (p .byte) 34) (there refl refl) (there refl refl)))

@@ -47,7 +47,10 @@ outside = "the value lies outside the automata that are allowed.\n"
 -- again, at the second of two quoted names, at `--BODY--`, and at any token that departs from an acceptance. 5 stands at a number, or at the text's end.
 abbrev pub pattern : Refusal → Place → String
 pattern (Form o) p =
-    cond (ends p) "line @, column ~: the HOA text ends too soon.\n" "line @, column ~: the HOA text cannot go on like this.\n"
+    cond (ends p) "line @, column ~: the HOA text ends too soon.\n"
+    (cond (digit p) "line @, column ~: a number that cannot stand here, or has a leading zero; the edges of a state all have labels, or none has and there is one for each letter.\n"
+    (cond (stands "[" p) "line @, column ~: a label that cannot stand here; the edges of a state all have labels, or none has.\n"
+    "line @, column ~: the HOA text cannot go on like this.\n"))
 pattern (Size o) p =
     cond (eqb o 65536) "line @, column ~: the HOA text has more than 65,536 bytes.\n"
     (cond (digit p) "line @, column ~: a count outside its limits (1 to 16 states, at most 4 propositions, at most 4 sets).\n"

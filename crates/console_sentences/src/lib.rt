@@ -11,7 +11,7 @@ ghost use lib.Dec.{eqb};
 ghost use lib.ListN.{length, drop};
 ghost use Rattle.decimal.specs.Wrote.{Wrote, WroteIfRoom};
 ghost use Rattle.console_sentences.specs.Sentences.{sentence, shown, filled};
-ghost use Rattle.console_sentences.specs.Patterns.{lineOf, sizeLine, itemLine, startOf, line, lineAt, most};
+ghost use Rattle.console_sentences.specs.Patterns.{lineOf, formLine, sizeLine, itemLine, startOf, line, lineAt, most};
 
 mod say;
 
@@ -34,12 +34,26 @@ fn line_of(code: Code, stands: usize) -> usize
     let number = code.number;
     let first = code.first;
     match number {
-        1 => if stands == UNSEEN { say::TOO_SOON } else { 1 },
+        1 => form_line(stands),
         2 => size_line(first, stands),
         3 => item_line(stands),
         4 => if first == 0 { say::OUTSIDE } else { 4 },
         5 => if stands == UNSEEN { say::NO_BODY } else { 5 },
         _ => number,
+    }
+}
+
+// At a digit a number, at `[` (91) a label.
+fn form_line(stands: usize) -> usize
+    ensures { λ r. ⌜ r ≡ formLine stands ⌝ }
+{
+    if stands == UNSEEN {
+        return say::TOO_SOON;
+    }
+    match stands {
+        48..=57 => say::NUMBER,
+        91 => say::LABEL,
+        _ => 1,
     }
 }
 

@@ -1,6 +1,6 @@
 // The patterns of the sentences, one to a line. Their marks stand for numbers: `@` for the line of a place and `~` for its column, `#` and `$`
 // for the two values of a refusal. Lines 1 to 14 have document 01's numbers.
-pub const PATTERNS: [u8; 1541] = *b"\
+pub const PATTERNS: [u8; 1800] = *b"\
     the value lies outside the automata that are allowed.\n\
     line @, column ~: the HOA text cannot go on like this.\n\
     line @, column ~: the signs ! and ( nest more than 32 deep.\n\
@@ -23,7 +23,9 @@ pub const PATTERNS: [u8; 1541] = *b"\
     line @, column ~: States, Start or Acceptance is missing, or the acceptance is not 0 t, 1 Inf(0), 2 Inf(0)&Inf(1) and so on up to 4.\n\
     line @, column ~: two propositions have one name, or the acceptance is not 0 t, 1 Inf(0), 2 Inf(0)&Inf(1) and so on up to 4.\n\
     line @, column ~: an item is given twice, or the acceptance is not 0 t, 1 Inf(0), 2 Inf(0)&Inf(1) and so on up to 4.\n\
-    state $ has no body.\n";
+    state $ has no body.\n\
+    line @, column ~: a number that cannot stand here, or has a leading zero; the edges of a state all have labels, or none has and there is one for each letter.\n\
+    line @, column ~: a label that cannot stand here; the edges of a state all have labels, or none has.\n";
 
 // The other lines: a value that was handed over, and the causes that what stands at a place tells.
 pub const OUTSIDE: usize = 0;
@@ -43,3 +45,7 @@ pub const ALIKE: usize = 20;
 pub const TWICE: usize = 21;
 
 pub const NO_BODY: usize = 22;
+
+pub const NUMBER: usize = 23;
+
+pub const LABEL: usize = 24;
