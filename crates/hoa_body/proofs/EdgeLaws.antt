@@ -7,10 +7,11 @@ use Prim.Native.Nat.{ℕ, _+_, _^_, _≤_, _<_, min}
 use native.Mathlib.Omega.{arith}
 use borrow.Author.Tests.{lt-leb, le-leb, ltb-true, ltb-false}
 use lib.Bits.{bitAnd}
-use lib.Dec.{leb, ltb, eqb}
+use lib.Dec.{ltb, eqb}
 use lib.ListN.{getD}
 use Rattle.meaning.specs.BitSet.{has}
 use Rattle.meaning.specs.BitSetLaws.{has-and}
+use Rattle.meaning.specs.TestLaws.{and-right}
 use Rattle.automaton.specs.declared.Automaton.{Automaton}
 use Rattle.refusals.specs.declared.Refusal.{Refusal}
 use Rattle.refusals.specs.declared.Refusal.the-variants.{Form, SecondEdge}
@@ -21,7 +22,7 @@ use Rattle.hoa_text.specs.Basics.{option, isSome}
 use Rattle.hoa_text.specs.Tokens.{Stream, left}
 use Rattle.hoa_text.specs.Grammar.{at, gives, refuses, Parsed, onward}
 use Rattle.hoa_text.specs.Header.{Header}
-use Rattle.hoa_text.specs.Body.{Table, letters, withEdge, secondEdge, marksGiven, labelledEdge, listedEdge, inState}
+use Rattle.hoa_text.specs.Body.{Table, letters, withEdge, secondEdge, marksGiven, listedEdge, inState}
 use Rattle.hoa_text.specs.Body as Hoa
 use Rattle.hoa_labels.specs.Answers.{Members}
 use Rattle.hoa_edges.specs.declared.EdgeRead.{EdgeRead}
@@ -33,7 +34,7 @@ use Rattle.hoa_body.specs.declared.parts.Part.{Part}
 use Rattle.hoa_body.specs.declared.parts.Part.the-variants.{Edge, Refused}
 use Rattle.hoa_body.specs.Answers.{Bounded, Opens, currentOf, current, Holds}
 use Rattle.hoa_body.specs.Parts.{BodyTurn}
-use Rattle.hoa_body.specs.Edges.{TakesLabel, TakesListed, LabelledEdgeAnswer, ListedEdgeAnswer, FirstAnswer}
+use Rattle.hoa_body.specs.Edges.{labelled, listed, Takes, TakesLabel, TakesListed, EdgeOf, FirstAnswer}
 use Rattle.hoa_body.proofs.OpenedLaws.{states-are, propositions-are, sets-are, letters-are}
 use Rattle.hoa_body.proofs.SetLaws.{first-found, first-lacks}
 
@@ -50,58 +51,47 @@ module _ (t : Table) (c : Current) (x : Stream) (is : t .current ≡ current c) 
       go true = refl
       go false = refl
 
-module _ (c : Current) where
-  pub takes-label : TakesLabel c (ltb (c .state) 16 && eqb (c .listed) 0)
-  takes-label = go (ltb (c .state) 16) (eqb (c .listed) 0) refl refl
-    where
-      go : (p q : Bool) → ltb (c .state) 16 ≡ p → eqb (c .listed) 0 ≡ q → TakesLabel c (p && q)
-      go true true e g = record {
-        state-lt = λ y. ltb-true (c .state) 16 e;
-        taken = λ y h t x is. in-state t c x is (labelledEdge h t x) true e ∙ rw g;
-        refused = λ y. absurd (true≢false y);
-      }
-      go true false e g = record {
-        state-lt = λ y. absurd (true≢false (sym y));
-        taken = λ y. absurd (true≢false (sym y));
-        refused = λ y h t x is. in-state t c x is (labelledEdge h t x) true e ∙ rw g;
-      }
-      go false q e g = record {
-        state-lt = λ y. absurd (true≢false (sym y));
-        taken = λ y. absurd (true≢false (sym y));
-        refused = λ y h t x is. in-state t c x is (labelledEdge h t x) false e;
-      }
+module _ (c : Current) (K : Header → Type 0) (asked : Header → Table → Stream → Hoa.Current → Parsed Table) (given : Header → Table → Stream → Parsed Table) where
+  takes : ltb (c .state) 16 ≡ true → ((h : Header) (t : Table) (x : Stream) → K h → asked h t x (currentOf c) ≡ given h t x) → Takes c true K asked given
+  takes e g = record {
+    state-lt = λ y. ltb-true (c .state) 16 e;
+    taken = λ y h t x k is. in-state t c x is (asked h t x) true e ∙ ap edgeTurn (g h t x k);
+    refused = λ y. absurd (true≢false y);
+  }
 
-  pub takes-listed : (n : ℕ) → TakesListed c n ((ltb (c .state) 16 && not (c .labelled)) && ltb (c .listed) n)
-  takes-listed n = go (ltb (c .state) 16) (c .labelled) (ltb (c .listed) n) refl refl refl
-    where
-      none-left : (h : Header) → letters h ≡ n → ltb (c .listed) n ≡ false → leb (letters h) (c .listed) ≡ true
-      none-left h k g = le-leb (letters h) (c .listed) (omega (arith, ltb-false (c .listed) n g))
+  takes-none : ((h : Header) (t : Table) (x : Stream) → K h → t .current ≡ current c → inState t x (asked h t x) ≡ refuses (Form (at x)))
+      → Takes c false K asked given
+  takes-none g = record { state-lt = λ y. absurd (true≢false (sym y)); taken = λ y. absurd (true≢false (sym y)); refused = λ y. g }
 
-      go : (p q b : Bool) → ltb (c .state) 16 ≡ p → c .labelled ≡ q → ltb (c .listed) n ≡ b → TakesListed c n ((p && not q) && b)
-      go true false true e l g = record {
-        state-lt = λ y. ltb-true (c .state) 16 e;
-        listed-lt = λ y. ltb-true (c .listed) n g;
-        taken = λ y h t x k is. in-state t c x is (listedEdge h t x) true e ∙ rw (l, lt-leb (letters h) (c .listed) (omega (arith, ltb-true (c .listed) n g)));
-        refused = λ y. absurd (true≢false y);
-      }
-      go true false false e l g = record {
-        state-lt = λ y. absurd (true≢false (sym y));
-        listed-lt = λ y. absurd (true≢false (sym y));
-        taken = λ y. absurd (true≢false (sym y));
-        refused = λ y h t x k is. in-state t c x is (listedEdge h t x) true e ∙ rw (l, none-left h k g);
-      }
-      go true true b e l g = record {
-        state-lt = λ y. absurd (true≢false (sym y));
-        listed-lt = λ y. absurd (true≢false (sym y));
-        taken = λ y. absurd (true≢false (sym y));
-        refused = λ y h t x k is. in-state t c x is (listedEdge h t x) true e ∙ rw l;
-      }
-      go false q b e l g = record {
-        state-lt = λ y. absurd (true≢false (sym y));
-        listed-lt = λ y. absurd (true≢false (sym y));
-        taken = λ y. absurd (true≢false (sym y));
-        refused = λ y h t x k is. in-state t c x is (listedEdge h t x) false e;
-      }
+  -- before the first state
+  takes-early : ltb (c .state) 16 ≡ false → Takes c false K asked given
+  takes-early e = takes-none (λ h t x k is. in-state t c x is (asked h t x) false e)
+
+  -- refused in the state
+  takes-not : ltb (c .state) 16 ≡ true → ((h : Header) (t : Table) (x : Stream) → K h → asked h t x (currentOf c) ≡ refuses (Form (at x)))
+      → Takes c false K asked given
+  takes-not e g = takes-none (λ h t x k is. in-state t c x is (asked h t x) true e ∙ ap edgeTurn (g h t x k))
+
+pub takes-label : (c : Current) → TakesLabel c (ltb (c .state) 16 && eqb (c .listed) 0)
+takes-label c = go (ltb (c .state) 16) (eqb (c .listed) 0) refl refl
+  where
+    go : (p q : Bool) → ltb (c .state) 16 ≡ p → eqb (c .listed) 0 ≡ q → TakesLabel c (p && q)
+    go true true e g = takes c _ _ _ e (λ h t x k. rw g)
+    go true false e g = takes-not c _ _ _ e (λ h t x k. rw g)
+    go false q e g = takes-early c _ _ _ e
+
+pub takes-listed : (c : Current) (n : ℕ) → TakesListed c n ((ltb (c .state) 16 && not (c .labelled)) && ltb (c .listed) n)
+takes-listed c n = record { takes = go (ltb (c .state) 16) (c .labelled) (ltb (c .listed) n) refl refl refl; listed-lt = below (ltb (c .listed) n) refl }
+  where
+    go : (p q b : Bool) → ltb (c .state) 16 ≡ p → c .labelled ≡ q → ltb (c .listed) n ≡ b
+        → Takes c ((p && not q) && b) (λ h. letters h ≡ n) listedEdge (λ h t x. listed h t c x)
+    go true false true e l g = takes c _ _ _ e (λ h t x k. rw (l, lt-leb (letters h) (c .listed) (omega (arith, ltb-true (c .listed) n g))))
+    go true false false e l g = takes-not c _ _ _ e (λ h t x k. rw (l, le-leb (letters h) (c .listed) (omega (arith, ltb-false (c .listed) n g))))
+    go true true b e l g = takes-not c _ _ _ e (λ h t x k. rw l)
+    go false q b e l g = takes-early c _ _ _ e
+
+    below : (b : Bool) → ltb (c .listed) n ≡ b → ((ltb (c .state) 16 && not (c .labelled)) && b) ≡ true → c .listed < n
+    below b e y = ltb-true (c .listed) n (e ∙ and-right (ltb (c .state) 16 && not (c .labelled)) b y)
 
 -- ---- whether it is the second for a letter
 
@@ -165,7 +155,7 @@ module _ (s : List ℕ) (i : ℕ) (a : Automaton) (u : Code.Table) (bounded : Bo
   abbrev without-label : Current
   without-label = record { state = u .current .state; shared = u .current .shared; labelled = u .current .labelled; listed = u .current .listed + 1 }
 
-  pub labelled-edge : EdgeAnswer s i (a .states) (a .propositions) (a .sets) read → FirstAnswer read with-label a u r → LabelledEdgeAnswer s i a u r
+  pub labelled-edge : EdgeAnswer s i (a .states) (a .propositions) (a .sets) read → FirstAnswer read with-label a u r → EdgeOf labelled s i a u r
   labelled-edge x y = record {
     lies = y .lies s i (x .lies);
     means = λ h t o g.
@@ -174,7 +164,7 @@ module _ (s : List ℕ) (i : ℕ) (a : Automaton) (u : Code.Table) (bounded : Bo
   }
 
   pub listed-edge : (set : ℕ) → u .current .listed < 16 → set ≡ single (u .current .listed) → UnlabelledAnswer s i (a .states) (a .sets) set read
-      → FirstAnswer read without-label a u r → ListedEdgeAnswer s i a u r
+      → FirstAnswer read without-label a u r → EdgeOf listed s i a u r
   listed-edge set l e x y = record {
     lies = y .lies s i (x .lies);
     means = λ h t o g.

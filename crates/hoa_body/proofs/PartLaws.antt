@@ -29,7 +29,7 @@ use Rattle.hoa_body.specs.declared.parts.Part.the-variants.{State, Edge,
 use Rattle.hoa_body.specs.Answers.{Bounded}
 use Rattle.hoa_body.specs.Parts.{PartLies, PartMeans, PartAnswer}
 use Rattle.hoa_body.specs.States.{StateAnswer}
-use Rattle.hoa_body.specs.Edges.{TakesLabel, TakesListed, LabelledEdgeAnswer, ListedEdgeAnswer}
+use Rattle.hoa_body.specs.Edges.{labelled, listed, TakesLabel, TakesListed, EdgeOf}
 use Rattle.hoa_body.proofs.OpenedLaws.{letters-are}
 
 -- a part behind the token that opens it
@@ -71,19 +71,19 @@ module _ (s : List ℕ) (i : ℕ) (a : Automaton) (u : Code.Table) where
       opened h t = ap (bodyRead h t) (k .is) ∙ rw (eq-eqb 91 b (sym is))
 
       pub no-label : r ≡ false → PartAnswer s i a u (Refused (Form o))
-      no-label l = record { lies = tt; means = λ h t c g. opened h t ∙ takes .refused l h t (stream s (Sign o b)) (g .current-is) }
+      no-label l = record { lies = tt; means = λ h t c g. opened h t ∙ takes .refused l h t (stream s (Sign o b)) tt (g .current-is) }
 
-      pub labelled-part : r ≡ true → (p : Part) → LabelledEdgeAnswer s (o + 1) a u p → PartAnswer s i a u p
+      pub labelled-part : r ≡ true → (p : Part) → EdgeOf labelled s (o + 1) a u p → PartAnswer s i a u p
       labelled-part l p x = record {
         lies = further s i (o + 1) (omega (arith, k .lies .from)) p (x .lies);
         means = λ h t c g.
-            subst (λ y. PartMeans h t s y p) (sym (opened h t ∙ takes .taken l h t (stream s (Sign o b)) (g .current-is))) (x .means h t c g);
+            subst (λ y. PartMeans h t s y p) (sym (opened h t ∙ takes .taken l h t (stream s (Sign o b)) tt (g .current-is))) (x .means h t c g);
       }
 
   -- ---- an edge without a label
 
   module _ (bounded : Bounded a) (o v e : ℕ) (k : Reads s i (Number o v e)) (n : ℕ) (count : n ≡ 2 ^ min (a .propositions) 4) (r : Bool)
-      (takes : TakesListed (u .current) n r) where
+      (listed-is : TakesListed (u .current) n r) where
     numbered : (h : Header) (t : Table) → bodyRead h t (left s i) ≡ inState t (left s i) (listedEdge h t (left s i))
     unfolding bodyRead
     numbered h t = ap (bodyRead h t) (k .is) ∙ sym (ap (λ x. inState t x (listedEdge h t x)) (k .is))
@@ -92,15 +92,15 @@ module _ (s : List ℕ) (i : ℕ) (a : Automaton) (u : Code.Table) where
     not-listed l = record {
       lies = tt;
       means = λ h t c g.
-          numbered h t ∙ takes .refused l h t (left s i) (letters-are a h c n bounded count) (g .current-is) ∙ ap (λ x. refuses (Form (at x))) (k .is);
+          numbered h t ∙ listed-is .takes .refused l h t (left s i) (letters-are a h c n bounded count) (g .current-is) ∙ ap (λ x. refuses (Form (at x))) (k .is);
     }
 
-    pub listed-part : r ≡ true → (p : Part) → ListedEdgeAnswer s i a u p → PartAnswer s i a u p
+    pub listed-part : r ≡ true → (p : Part) → EdgeOf listed s i a u p → PartAnswer s i a u p
     listed-part l p x = record {
       lies = x .lies;
       means = λ h t c g.
           subst (λ y. PartMeans h t s y p)
-          (sym (numbered h t ∙ takes .taken l h t (left s i) (letters-are a h c n bounded count) (g .current-is))) (x .means h t c g);
+          (sym (numbered h t ∙ listed-is .takes .taken l h t (left s i) (letters-are a h c n bounded count) (g .current-is))) (x .means h t c g);
     }
 
   -- ---- the end, and what cannot stand here

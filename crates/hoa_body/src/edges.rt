@@ -12,7 +12,7 @@ use hoa_edges::unlabelled;
 use refusals::Refusal;
 ghost use Prim.Native.Nat.{_<_};
 ghost use Rattle.hoa_body.specs.Answers.{Bounded};
-ghost use Rattle.hoa_body.specs.Edges.{TakesLabel, TakesListed, LabelledEdgeAnswer, ListedEdgeAnswer, FirstAnswer};
+ghost use Rattle.hoa_body.specs.Edges.{labelled, listed, TakesLabel, TakesListed, EdgeOf, FirstAnswer};
 
 // Whether an edge with a label may stand here: a state has begun, and no edge of it was listed.
 pub fn takes_label(current: Current) -> bool
@@ -31,7 +31,7 @@ pub fn takes_listed(current: Current, letters: usize) -> bool
 // Behind the `[` of an edge.
 pub fn labelled_edge(text: &[u8], at: usize, opened: Automaton, table: Table) -> Part
     requires { ⌜ Bounded opened × (table .current .state < 16) ⌝ }
-    ensures { λ r. ⌜ LabelledEdgeAnswer (now (text .entry)) at opened table r ⌝ }
+    ensures { λ r. ⌜ EdgeOf labelled (now (text .entry)) at opened table r ⌝ }
 {
     let read = edge(text, at, opened.states, opened.propositions, opened.sets);
     let mut counted = table.current;
@@ -42,7 +42,7 @@ pub fn labelled_edge(text: &[u8], at: usize, opened: Automaton, table: Table) ->
 // An edge without a label, for the next letter.
 pub fn listed_edge(text: &[u8], at: usize, opened: Automaton, table: Table) -> Part
     requires { ⌜ Bounded opened × (table .current .state < 16) × (table .current .listed < 16) ⌝ }
-    ensures { λ r. ⌜ ListedEdgeAnswer (now (text .entry)) at opened table r ⌝ }
+    ensures { λ r. ⌜ EdgeOf listed (now (text .entry)) at opened table r ⌝ }
 {
     let letter = table.current.listed;
     let read = unlabelled(text, at, opened.states, opened.sets, single(letter));

@@ -14,7 +14,7 @@ use tables::with_edge;
 use tables::with_state;
 ghost use Rattle.hoa_body.specs.Answers.{Bounded, BodyOf, BodyAnswer};
 
-// A state whose edges may stand here.
+// A state while its edges are read.
 pub struct Current {
     // `Automaton::STATES` before the first.
     pub state: usize,
@@ -32,6 +32,7 @@ pub struct Table {
     pub named: u16,
     // For each state the letters that have an edge: bit l for the letter l.
     pub given: [u16; Automaton::STATES],
+    // The state whose edges may stand here.
     pub current: Current,
     pub destinations: [u8; Automaton::CELLS],
     pub marks: [u8; Automaton::CELLS],

@@ -19,14 +19,14 @@ pub record Edge : Type 0 where
   pub destination : ℕ
   pub marks : ℕ
 
--- the state whose edges may stand here: the marks that it shares with them, whether one of them had a label, and how many had none
+-- a state while its edges are read: the marks that it shares with them, whether one of them had a label, and how many had none
 pub record Current : Type 0 where
   pub state : ℕ
   pub shared : ℕ
   pub labelled : Bool
   pub listed : ℕ
 
--- the body so far: the states that were named, and their transitions
+-- the body so far: the states that were named, their transitions, and the state whose edges may stand here
 pub record Table : Type 0 where
   pub named : ℕ → Bool
   pub edge : ℕ → ℕ → Option Edge
@@ -102,7 +102,7 @@ destinationGiven h t c f o d s =
     let r = then (marked (h .sets) s) (marksGiven h t c f d) in
     cond (ltb d (h .states)) r (refuses (Undeclared o))
 
--- "destination and perhaps `{marks}`"
+-- without its label: "destination and perhaps `{marks}`"
 abbrev pub unlabelled : Header → Table → Current → (ℕ → Bool) → Stream → Parsed Table
 unlabelled h t c f s = then (due numberOf s) (destinationGiven h t c f (at s))
 

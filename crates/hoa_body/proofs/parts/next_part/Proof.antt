@@ -70,7 +70,7 @@ listed-edge-requires : tie.Need-listed-edge-requires
 listed-edge-requires c κs =
     let t = c .before .takes-listed .ensures in
     let yes = not-false _ (c .if4 .left) in
-    (c .before .before .before .before .before .before .before .before .pre, t .state-lt yes, omega (arith, t .listed-lt yes, c .before .before .power-of-two .ensures .1 .1))
+    (c .before .before .before .before .before .before .before .before .pre, t .takes .state-lt yes, omega (arith, t .listed-lt yes, c .before .before .power-of-two .ensures .1 .1))
 
 enum-known-start-4 : tie.Need-enum-known-start-4
 enum-known-start-4 c = search needs
