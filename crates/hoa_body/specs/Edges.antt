@@ -32,7 +32,7 @@ listed h t c x = unlabelled h t (withoutLabel (currentOf c)) (λ l. eqb l (c .li
 
 -- ---- whether an edge may stand here
 
--- r says whether the edge is read, as `given` says, or refused at its first token; by every header as K says, with the current state c
+-- r says whether the edge is read, as `given` says, or refused at its first token: under every header that K holds of, where c is the current state
 pub record Takes (c : Current) (r : Bool) (K : Header → Type 0) (asked : Header → Table → Stream → Hoa.Current → Parsed Table)
     (given : Header → Table → Stream → Parsed Table) : Type 0 where
   pub state-lt : r ≡ true → c .state < 16

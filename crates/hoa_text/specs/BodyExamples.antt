@@ -1,4 +1,4 @@
--- EXAMPLES, by computation: marks on states and edges without labels, document 02's E1. All but the last two texts have two states, one proposition
+-- EXAMPLES, by computation: marks on states and edges without labels, document 02's E1. All but the last three texts have two states, one proposition
 -- and two sets; an offset counts from behind their `--BODY--`.
 use mathlib.Core.Path.{_≡_, refl}
 use mathlib.Core.List.{List, [], _∷_, _++_}
@@ -13,7 +13,7 @@ use Rattle.hoa_text.specs.Labels.{deepest}
 use Rattle.hoa_text.specs.Header.{itemRead}
 use Rattle.hoa_text.specs.Body.{bodyRead}
 use Rattle.hoa_text.specs.Reading.{read}
-use Rattle.hoa_text.specs.Examples.{one-state}
+use Rattle.hoa_text.specs.Examples.{one-state, both-for-ever}
 
 abbrev head : List ℕ
 head = bytes "HOA: v1 States: 2 Start: 0 AP: 1 \"a\" Acceptance: 2 Inf(0)&Inf(1) --BODY--"
@@ -127,8 +127,14 @@ state-label : body " State: [0] 0" ≡ refuses (Form (behind 8))
 unfolding read itemRead bodyRead deepest
 state-label = refl
 
--- ---- no proposition: there is one letter
+-- ---- other numbers of propositions
 
+-- "in letter order": the automaton whose labels are `!0&!1`, `0&!1`, `!0&1`, `0&1`
+four-letters : read (bytes "HOA: v1 States: 1 Start: 0 AP: 2 \"a\" \"b\" Acceptance: 2 Inf(0)&Inf(1) --BODY-- State: 0 0 0 {0} 0 {1} 0 {0 1} --END--") ≡ gives both-for-ever
+unfolding read itemRead bodyRead deepest
+four-letters = refl
+
+-- without propositions there is one letter
 one-letter : read (bytes "HOA: v1 States: 1 Start: 0 Acceptance: 1 Inf(0) --BODY-- State: 0 0 --END--") ≡ gives one-state
 unfolding read itemRead bodyRead deepest
 one-letter = refl
