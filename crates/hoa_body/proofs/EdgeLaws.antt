@@ -160,7 +160,7 @@ module _ (s : List ℕ) (i : ℕ) (a : Automaton) (u : Code.Table) (bounded : Bo
     lies = y .lies s i (x .lies);
     means = λ h t o g.
         y .means h t s _ o g
-        (x .means h t (currentOf with-label) (states-are a h o) (propositions-are a h o) (sets-are a h o) (bounded .sets-le));
+        (x .means (bounded .sets-le) h t (currentOf with-label) (states-are a h o) (propositions-are a h o) (sets-are a h o));
   }
 
   pub listed-edge : (set : ℕ) → u .current .listed < 16 → set ≡ single (u .current .listed) → UnlabelledAnswer s i (a .states) (a .sets) set read
@@ -169,6 +169,6 @@ module _ (s : List ℕ) (i : ℕ) (a : Automaton) (u : Code.Table) (bounded : Bo
     lies = y .lies s i (x .lies);
     means = λ h t o g.
         y .means h t s _ o g
-        (x .means h t (currentOf without-label) (λ k. eqb k (u .current .listed)) (states-are a h o) (sets-are a h o) (bounded .sets-le)
+        (x .means (bounded .sets-le) h t (currentOf without-label) (λ k. eqb k (u .current .listed)) (states-are a h o) (sets-are a h o)
         (λ k hk. ap (λ n. has n k) (single-is l e) ∙ has-single (u .current .listed) k));
   }

@@ -14,10 +14,11 @@ use Rattle.automaton.specs.declared.Automaton.{Automaton}
 use Rattle.refusals.specs.declared.Refusal.the-variants.{Form}
 use Rattle.automaton.specs.Bytes.{bytes}
 use Rattle.hoa_text.specs.Basics.{same}
-use Rattle.hoa_text.specs.Tokens.{left}
-use Rattle.hoa_text.specs.Grammar.{at, refuses}
+use Rattle.hoa_text.specs.Tokens.{Stream, left}
+use Rattle.hoa_text.specs.Grammar.{at, refuses, Parsed, onward}
 use Rattle.hoa_text.specs.Header.{Header}
-use Rattle.hoa_text.specs.Body.{Table, labelledEdge, listedEdge, inState, bodyRead}
+use Rattle.hoa_text.specs.Body.{Table, letters, labelledEdge, listedEdge, inState, bodyRead}
+use Rattle.hoa_text.specs.Body as Hoa
 use Rattle.hoa_tokens.specs.declared.Token.{Token}
 use Rattle.hoa_tokens.specs.declared.Token.the-variants.{Word, Item, Number, Quoted, Sign, Abort, Unread, Over, Broken}
 use Rattle.hoa_tokens.specs.declared.Token.the-variants as Token
@@ -26,10 +27,10 @@ use Rattle.hoa_tokens.proofs.Token.{enum}
 use Rattle.hoa_body.specs.declared.Table as Code
 use Rattle.hoa_body.specs.declared.parts.Part.{Part}
 use Rattle.hoa_body.specs.declared.parts.Part.the-variants.{State, Edge, End, Refused}
-use Rattle.hoa_body.specs.Answers.{Bounded}
+use Rattle.hoa_body.specs.Answers.{Bounded, Opens, Holds}
 use Rattle.hoa_body.specs.Parts.{PartLies, PartMeans, PartAnswer}
 use Rattle.hoa_body.specs.States.{StateAnswer}
-use Rattle.hoa_body.specs.Edges.{labelled, listed, TakesLabel, TakesListed, EdgeOf}
+use Rattle.hoa_body.specs.Edges.{labelled, listed, Takes, TakesLabel, TakesListed, EdgeOf}
 use Rattle.hoa_body.proofs.OpenedLaws.{letters-are}
 
 -- a part behind the token that opens it
@@ -55,7 +56,25 @@ module _ (s : List ℕ) (i : ℕ) (a : Automaton) (u : Code.Table) where
     unfolding bodyRead
     other-item b = record { lies = tt; means = λ h t c g. ap (bodyRead h t) (k .is) ∙ rw b }
 
-  -- ---- an edge with a label
+  -- ---- an edge, where x stands from i on and says of which kind it is
+
+  module _ (x : Stream) (r : Bool) {K : Header → Type 0} {asked : Header → Table → Stream → Hoa.Current → Parsed Table}
+      {given : Header → Table → Stream → Parsed Table} (takes : Takes (u .current) r K asked given)
+      (begins : (h : Header) (t : Table) → bodyRead h t (left s i) ≡ inState t x (asked h t x)) (under : (h : Header) → Opens a h → K h) where
+    edge-refused : r ≡ false → (o : ℕ) → at x ≡ o → PartAnswer s i a u (Refused (Form o))
+    edge-refused l o e = record {
+      lies = tt;
+      means = λ h t c g. begins h t ∙ takes .refused l h t x (under h c) (g .current-is) ∙ ap (λ o. refuses (Form o)) e;
+    }
+
+    edge-taken : r ≡ true → (p : Part) → PartLies s i p → ((h : Header) (t : Table) → Opens a h → Holds h t u → PartMeans h t s (onward (given h t x)) p)
+        → PartAnswer s i a u p
+    edge-taken l p y z = record {
+      lies = y;
+      means = λ h t c g. subst (λ w. PartMeans h t s w p) (sym (begins h t ∙ takes .taken l h t x (under h c) (g .current-is))) (z h t c g);
+    }
+
+  -- ---- with a label
 
   module _ (o b : ℕ) (k : Reads s i (Sign o b)) where
     pub other-sign : b ≢ 91 → PartAnswer s i a u (Refused (Form o))
@@ -71,37 +90,28 @@ module _ (s : List ℕ) (i : ℕ) (a : Automaton) (u : Code.Table) where
       opened h t = ap (bodyRead h t) (k .is) ∙ rw (eq-eqb 91 b (sym is))
 
       pub no-label : r ≡ false → PartAnswer s i a u (Refused (Form o))
-      no-label l = record { lies = tt; means = λ h t c g. opened h t ∙ takes .refused l h t (stream s (Sign o b)) tt (g .current-is) }
+      no-label l = edge-refused (stream s (Sign o b)) r takes opened (λ h c. tt) l o refl
 
       pub labelled-part : r ≡ true → (p : Part) → EdgeOf labelled s (o + 1) a u p → PartAnswer s i a u p
-      labelled-part l p x = record {
-        lies = further s i (o + 1) (omega (arith, k .lies .from)) p (x .lies);
-        means = λ h t c g.
-            subst (λ y. PartMeans h t s y p) (sym (opened h t ∙ takes .taken l h t (stream s (Sign o b)) tt (g .current-is))) (x .means h t c g);
-      }
+      labelled-part l p x =
+          edge-taken (stream s (Sign o b)) r takes opened (λ h c. tt) l p (further s i (o + 1) (omega (arith, k .lies .from)) p (x .lies)) (x .means)
 
-  -- ---- an edge without a label
+  -- ---- without a label
 
   module _ (bounded : Bounded a) (o v e : ℕ) (k : Reads s i (Number o v e)) (n : ℕ) (count : n ≡ 2 ^ min (a .propositions) 4) (r : Bool)
-      (listed-is : TakesListed (u .current) n r) where
+      (takes : TakesListed (u .current) n r) where
     numbered : (h : Header) (t : Table) → bodyRead h t (left s i) ≡ inState t (left s i) (listedEdge h t (left s i))
     unfolding bodyRead
     numbered h t = ap (bodyRead h t) (k .is) ∙ sym (ap (λ x. inState t x (listedEdge h t x)) (k .is))
 
+    counted : (h : Header) → Opens a h → letters h ≡ n
+    counted h c = letters-are a h c n bounded count
+
     pub not-listed : r ≡ false → PartAnswer s i a u (Refused (Form o))
-    not-listed l = record {
-      lies = tt;
-      means = λ h t c g.
-          numbered h t ∙ listed-is .takes .refused l h t (left s i) (letters-are a h c n bounded count) (g .current-is) ∙ ap (λ x. refuses (Form (at x))) (k .is);
-    }
+    not-listed l = edge-refused (left s i) r (takes .takes) numbered counted l o (ap at (k .is))
 
     pub listed-part : r ≡ true → (p : Part) → EdgeOf listed s i a u p → PartAnswer s i a u p
-    listed-part l p x = record {
-      lies = x .lies;
-      means = λ h t c g.
-          subst (λ y. PartMeans h t s y p)
-          (sym (numbered h t ∙ listed-is .takes .taken l h t (left s i) (letters-are a h c n bounded count) (g .current-is))) (x .means h t c g);
-    }
+    listed-part l p x = edge-taken (left s i) r (takes .takes) numbered counted l p (x .lies) (x .means)
 
   -- ---- the end, and what cannot stand here
 

@@ -14,8 +14,8 @@ use Rattle.automaton.specs.declared.Automaton.{Automaton}
 use Rattle.refusals.specs.declared.Refusal.{Refusal}
 use Rattle.refusals.specs.declared.Refusal.the-variants.{Form, Undeclared, Body}
 use Rattle.hoa_text.specs.Basics.{isSome}
-use Rattle.hoa_text.specs.Tokens.{left}
-use Rattle.hoa_text.specs.Grammar.{numberOf, quotedOf, next, rest, at, gives, refuses, Parsed, peek, then, onward}
+use Rattle.hoa_text.specs.Tokens.{Stream, left}
+use Rattle.hoa_text.specs.Grammar.{numberOf, quotedOf, next, rest, at, gives, Parsed, peek, then, onward}
 use Rattle.hoa_text.specs.Header.{Header}
 use Rattle.hoa_text.specs.Body.{Table, marked, withState, unquoted, stateMarked, stateGiven, stateItem}
 use Rattle.hoa_tokens.specs.declared.Token.{Token}
@@ -25,7 +25,8 @@ use Rattle.hoa_tokens.specs.Answers.{stream, Reads}
 use Rattle.hoa_tokens.proofs.Token.{enum}
 use Rattle.hoa_tokens.proofs.Due.{number-due}
 use Rattle.hoa_marks.specs.declared.MarksRead.the-variants as Marks
-use Rattle.hoa_marks.specs.Answers.{Marked, MarksAnswer}
+use Rattle.hoa_marks.specs.Answers.{MarksAnswer}
+use Rattle.hoa_marks.proofs.MarkLaws.{then-refused, then-read}
 use Rattle.hoa_body.specs.declared.parts.Part.{Part}
 use Rattle.hoa_body.specs.declared.parts.Part.the-variants.{State, Refused}
 use Rattle.hoa_body.specs.Answers.{Bounded}
@@ -60,21 +61,20 @@ none-quoted s i t h g l =
 
 -- ---- the marks behind it
 
-module _ (s : List ℕ) (i m p o : ℕ) (sets-le : m ≤ 4) (x : Unquoted s i o) where
-  given : (h : Header) (t : Table) (y : Parsed ℕ) → h .sets ≡ m → marked m (left s o) ≡ y
-      → stateMarked h t p (left s i) ≡ then y (λ m u. gives (withState t p m, u))
-  given h t y k e =
-      ap (λ u. then (marked (h .sets) u) (λ m u. gives (withState t p m, u))) (sym (x .is))
-      ∙ ap (λ n. then (marked n (left s o)) (λ m u. gives (withState t p m, u))) k
-      ∙ ap (λ y. then y (λ m u. gives (withState t p m, u))) e
+abbrev withMarks : Table → ℕ → ℕ → Stream → Parsed Table
+withMarks t p m u = gives (withState t p m, u)
 
-  pub marks-refused : (r : Refusal) → MarksAnswer s o m (marked m (left s o)) (Marks.Refused r) → StateMarkedAnswer s i m p (Refused r)
-  marks-refused r y = record { lies = λ b l. tt; means = λ h t k. ap onward (given h t (refuses r) k (y sets-le)) }
+module _ (s : List ℕ) (i m p o : ℕ) (few : m ≤ 4) (x : Unquoted s i o) where
+  given : (h : Header) (t : Table) → stateMarked h t p (left s i) ≡ then (marked (h .sets) (left s o)) (withMarks t p)
+  given h t = ap (λ u. then (marked (h .sets) u) (withMarks t p)) (sym (x .is))
 
-  pub marks-read : (set e : ℕ) → p < 16 → Marked s o m (marked m (left s o)) set e → StateMarkedAnswer s i m p (State p set e)
+  pub marks-refused : (r : Refusal) → MarksAnswer s o m (Marks.Refused r) → StateMarkedAnswer s i m p (Refused r)
+  marks-refused r y = record { lies = λ b l. tt; means = λ h t k. ap onward (given h t ∙ then-refused s o m (h .sets) few k (withMarks t p) r y) }
+
+  pub marks-read : (set e : ℕ) → p < 16 → MarksAnswer s o m (Marks.Marks set e) → StateMarkedAnswer s i m p (State p set e)
   marks-read set e l y = record {
-    lies = λ b k. (l, record { from = omega (arith, x .from, y .from); to = y .to (x .to) });
-    means = λ h t k. ap onward (given h t (gives (set, left s e)) k (y .is sets-le));
+    lies = λ b k. (l, record { from = omega (arith, x .from, y .is few .from); to = y .is few .to (x .to) });
+    means = λ h t k. ap onward (given h t ∙ then-read s o m (h .sets) few k (withMarks t p) set e y);
   }
 
 -- ---- the number

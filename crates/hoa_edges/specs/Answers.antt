@@ -4,6 +4,7 @@ use mathlib.Core.Bool.{Bool}
 use mathlib.Core.List.{List}
 use Prim.Native.Nat.{ℕ, _≤_, _<_}
 use lib.ListN.{length}
+use Rattle.refusals.specs.declared.Refusal.the-variants.{Outside}
 use Rattle.hoa_text.specs.Grammar.{refuses, Parsed}
 use Rattle.hoa_text.specs.Header.{Header}
 use Rattle.hoa_text.specs.Body.{Current, Table, marksGiven, unlabelled, edge}
@@ -37,11 +38,13 @@ EdgeMeans h t c s x (Refused r) = x ≡ refuses r
 -- behind the `[`, with n states, k propositions and m sets: "0 to 4" sets
 pub record EdgeAnswer (s : List ℕ) (i n k m : ℕ) (r : EdgeRead) : Type 0 where
   pub lies : EdgeLies s i n r
-  pub means : (h : Header) (t : Table) (c : Current) → h .states ≡ n → length (h .names) ≡ k → h .sets ≡ m → m ≤ 4
+  pub means : m ≤ 4 → (h : Header) (t : Table) (c : Current) → h .states ≡ n → length (h .names) ≡ k → h .sets ≡ m
       → EdgeMeans h t c s (edge h t c (left s i)) r
+  pub outside : 4 < m → r ≡ Refused Outside
 
 -- without its label, for the letters of the set
 pub record UnlabelledAnswer (s : List ℕ) (i n m set : ℕ) (r : EdgeRead) : Type 0 where
   pub lies : EdgeLies s i n r
-  pub means : (h : Header) (t : Table) (c : Current) (f : ℕ → Bool) → h .states ≡ n → h .sets ≡ m → m ≤ 4 → Members set f
+  pub means : m ≤ 4 → (h : Header) (t : Table) (c : Current) (f : ℕ → Bool) → h .states ≡ n → h .sets ≡ m → Members set f
       → EdgeMeans h t c s (unlabelled h t c f (left s i)) r
+  pub outside : 4 < m → r ≡ Refused Outside

@@ -15,11 +15,11 @@ use Rattle.hoa_edges.specs.Answers.{EdgeLies, EdgeMeans}
 -- behind a label whose letters are the set
 pub record LabelledAnswer (s : List ℕ) (i n m set : ℕ) (r : EdgeRead) : Type 0 where
   pub lies : EdgeLies s i n r
-  pub means : (h : Header) (t : Table) (c : Current) (f : Formula) → h .states ≡ n → h .sets ≡ m → m ≤ 4 → Satisfy set f
+  pub means : (h : Header) (t : Table) (c : Current) (f : Formula) → m ≤ 4 → h .states ≡ n → h .sets ≡ m → Satisfy set f
       → EdgeMeans h t c s (labelGiven h t c f (left s i)) r
 
 -- behind the destination d
 pub record MarkedAnswer (s : List ℕ) (i m set d : ℕ) (r : EdgeRead) : Type 0 where
   pub lies : (b n : ℕ) → b < i → d < n → EdgeLies s b n r
-  pub means : (h : Header) (t : Table) (c : Current) (f : ℕ → Bool) → h .sets ≡ m → m ≤ 4 → Members set f
+  pub means : (h : Header) (t : Table) (c : Current) (f : ℕ → Bool) → h .sets ≡ m → Members set f
       → EdgeMeans h t c s (then (marked (h .sets) (left s i)) (marksGiven h t c f d)) r

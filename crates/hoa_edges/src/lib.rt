@@ -1,4 +1,5 @@
 // An edge of the body: its label, destination and marks.
+use automaton::Automaton;
 use hoa_labels::LabelRead;
 use hoa_labels::label;
 use hoa_marks::MarksRead;
@@ -19,10 +20,13 @@ pub enum EdgeRead {
     Refused(Refusal),
 }
 
-// Behind a `[`, with at most four sets.
+// Behind a `[`; a count of sets past the limit is refused.
 pub fn edge(text: &[u8], at: usize, states: usize, propositions: usize, sets: usize) -> EdgeRead
     ensures { λ r. ⌜ EdgeAnswer (now (text .entry)) at states propositions sets r ⌝ }
 {
+    if sets > Automaton::SETS {
+        return EdgeRead::Refused(Refusal::Outside);
+    }
     match label(text, at, propositions) {
         LabelRead::Refused(refusal) => EdgeRead::Refused(refusal),
         LabelRead::Letters(set, next) => labelled(text, next, states, sets, set),
@@ -40,10 +44,13 @@ fn labelled(text: &[u8], at: usize, states: usize, sets: usize, set: u16) -> Edg
     unlabelled(text, closed, states, sets, set)
 }
 
-// An edge for the letters of the set, without its label, with at most four sets.
+// An edge for the letters of the set, without its label; a count of sets past the limit is refused.
 pub fn unlabelled(text: &[u8], at: usize, states: usize, sets: usize, set: u16) -> EdgeRead
     ensures { λ r. ⌜ UnlabelledAnswer (now (text .entry)) at states sets set r ⌝ }
 {
+    if sets > Automaton::SETS {
+        return EdgeRead::Refused(Refusal::Outside);
+    }
     match next_token(text, at) {
         Token::Number(start, destination, next) => {
             if destination < states {
@@ -58,7 +65,7 @@ pub fn unlabelled(text: &[u8], at: usize, states: usize, sets: usize, set: u16) 
 
 // Behind a destination.
 fn marked(text: &[u8], at: usize, sets: usize, set: u16, destination: usize) -> EdgeRead
-    requires { ⌜ at ≤ length (now text) ⌝ }
+    requires { ⌜ (at ≤ length (now text)) × (sets ≤ 4) ⌝ }
     ensures { λ r. ⌜ MarkedAnswer (now (text .entry)) at sets set destination r ⌝ }
 {
     match marks(text, at, sets) {

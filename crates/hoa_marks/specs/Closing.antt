@@ -7,8 +7,8 @@ use Rattle.hoa_text.specs.Grammar.{numberOf, peek}
 use Rattle.hoa_text.specs.Body.{marks}
 use Rattle.hoa_text.specs.Tokens.{left}
 use Rattle.hoa_marks.specs.declared.MarksRead.{MarksRead}
-use Rattle.hoa_marks.specs.Answers.{MarksAnswer}
+use Rattle.hoa_marks.specs.Answers.{MarksMean}
 
 -- behind the marks of the set m, where no further number stands
 abbrev pub ClosedAnswer : List ℕ → ℕ → ℕ → MarksRead → Type 0
-ClosedAnswer s i m r = (n : ℕ) → peek numberOf (left s i) ≡ none → MarksAnswer s i n (marks n m (left s i)) r
+ClosedAnswer s i m r = (n : ℕ) → peek numberOf (left s i) ≡ none → MarksMean s i (marks n m (left s i)) r

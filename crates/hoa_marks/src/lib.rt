@@ -1,13 +1,15 @@
 // The marks of a state or an edge.
+use automaton::Automaton;
 use bits::powers::power_of_two;
 use hoa_offsets::behind;
 use hoa_offsets::offset;
 use hoa_tokens::Token;
 use hoa_tokens::next_token;
 use refusals::Refusal;
-ghost use Rattle.hoa_text.specs.Body.{marks, marked};
+ghost use Prim.Native.Nat.{_≤_};
+ghost use Rattle.hoa_text.specs.Body.{marks};
 ghost use Rattle.hoa_text.specs.Tokens.{left};
-ghost use Rattle.hoa_marks.specs.Answers.{MarksAnswer};
+ghost use Rattle.hoa_marks.specs.Answers.{MarksMean, MarksAnswer};
 ghost use Rattle.hoa_marks.specs.Closing.{ClosedAnswer};
 
 // A set of marks, and the offset behind it; or why it is refused.
@@ -16,10 +18,13 @@ pub enum MarksRead {
     Refused(Refusal),
 }
 
-// The marks that may stand next, with at most four sets.
+// The marks that may stand next; a count of sets past the limit is refused.
 pub fn marks(text: &[u8], at: usize, sets: usize) -> MarksRead
-    ensures { λ r. ⌜ MarksAnswer (now (text .entry)) at sets (marked sets (left (now (text .entry)) at)) r ⌝ }
+    ensures { λ r. ⌜ MarksAnswer (now (text .entry)) at sets r ⌝ }
 {
+    if sets > Automaton::SETS {
+        return MarksRead::Refused(Refusal::Outside);
+    }
     let opened = behind(text, at, b'{');
     if opened == at {
         return MarksRead::Marks(0, at);
@@ -29,7 +34,8 @@ pub fn marks(text: &[u8], at: usize, sets: usize) -> MarksRead
 
 // Behind a `{`.
 fn listed(text: &[u8], at: usize, sets: usize) -> MarksRead
-    ensures { λ r. ⌜ MarksAnswer (now (text .entry)) at sets (marks sets 0 (left (now (text .entry)) at)) r ⌝ }
+    requires { ⌜ sets ≤ 4 ⌝ }
+    ensures { λ r. ⌜ MarksMean (now (text .entry)) at (marks sets 0 (left (now (text .entry)) at)) r ⌝ }
 {
     let mut set: u8 = 0;
     let mut i = at;

@@ -106,10 +106,11 @@ destinationGiven h t c f o d s =
 abbrev pub unlabelled : Header → Table → Current → (ℕ → Bool) → Stream → Parsed Table
 unlabelled h t c f s = then (due numberOf s) (destinationGiven h t c f (at s))
 
--- "Every edge is `[label] destination` and perhaps `{marks}`": behind the `[`
+-- "Every edge is `[label] destination` and perhaps `{marks}`": behind the label f
 abbrev pub labelGiven : Header → Table → Current → Formula → Stream → Parsed Table
 labelGiven h t c f s = expect (isSign "]") s (unlabelled h t c (holds f))
 
+-- behind the `[`
 abbrev pub edge : Header → Table → Current → Stream → Parsed Table
 edge h t c s = then (label (length (h .names)) s) (labelGiven h t c)
 

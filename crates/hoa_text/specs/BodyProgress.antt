@@ -2,7 +2,7 @@
 use mathlib.Core.Path.{_≡_}
 use mathlib.Core.Bool.{Bool, cond, _||_}
 use mathlib.Core.Option.{Option, none, some}
-use Prim.Native.Nat.{ℕ, suc, _≤_, _<_, _^_}
+use Prim.Native.Nat.{ℕ, suc, _≤_, _^_}
 use native.Mathlib.Omega.{arith}
 use lib.Bits.{bitOr}
 use lib.Dec.{leb, ltb, eqb}
@@ -16,8 +16,8 @@ use Rattle.hoa_text.specs.Grammar.{numberOf, quotedOf, isItem, isSign, n
 use Rattle.hoa_text.specs.Labels.{Formula, holds, label}
 use Rattle.hoa_text.specs.Header.{Header}
 use Rattle.hoa_text.specs.Body.{Current, Table, letters, marks, marked, withState, unquoted, stateMarked, stateGiven, stateItem, withEdge, secondEdge, marksGiven, destinationGiven, unlabelled, labelGiven, edge, withLabel, withoutLabel, labelledEdge, listedEdge, bodyRead}
-use Rattle.hoa_text.specs.Repetition.{Every, every-onward, Fewer, Shrinks, repeat-turn}
-use Rattle.hoa_text.specs.Progress.{rest-size, Leaves, leaves-more, rest-leaves, most-leaves, then-leaves, due-leaves, expect-leaves, onward-fewer}
+use Rattle.hoa_text.specs.Repetition.{Every, Fewer, Shrinks, repeat-turn}
+use Rattle.hoa_text.specs.Progress.{rest-size, Leaves, leaves-more, rest-leaves, most-leaves, then-leaves, due-leaves, expect-leaves, onward-fewer, onward-behind}
 use Rattle.hoa_text.specs.LabelProgress.{label-leaves}
 
 -- ---- marks
@@ -103,7 +103,7 @@ pub body-shrinks : (h : Header) → Shrinks (bodyRead h)
 unfolding bodyRead
 body-shrinks h t s =
     on-cond (Every (Fewer (size s))) (next (isItem "State") s) _ _
-    (λ e. onward-fewer (Table × Stream) (isItem "State") s (stateItem h t (rest s)) e (stateItem-leaves h t (rest s)))
+    (λ e. onward-behind (Table × Stream) s (stateItem h t (rest s)) (stateItem-leaves h t (rest s)))
     (λ e. on-cond (Every (Fewer (size s))) (next (isSign "[") s) _ _ (λ e. edged (t .current) (labelledEdge h t s) (λ c. labelledEdge-leaves h t c s))
     (λ e. on-cond (Every (Fewer (size s))) (next (λ x. isSome (numberOf x)) s) _ _ (λ e. edged (t .current) (listedEdge h t s) (λ c. listedEdge-leaves h t c s))
     (λ e. on-cond (Every (Fewer (size s))) (next (isSign "--END--") s) _ _ (λ e. tt) (λ e. tt))))
@@ -111,7 +111,7 @@ body-shrinks h t s =
     edged : (x : Option Current) (f : Current → Parsed Table) → ((c : Current) → Leaves (size s) (f c))
         → Every (Fewer (size s)) (onward {B = Table × Stream} (option x (refuses (Form (at s))) f))
     edged none f g = tt
-    edged (some c) f g = every-onward (λ t u. size u < size s) (λ y. Unit {0}) (f c) (g c)
+    edged (some c) f g = onward-fewer (Table × Stream) (size s) (f c) (g c)
 
 pub body-turn : (h : Header) (t : Table) (s : Stream) → repeat (bodyRead h) t s ≡ turn (bodyRead h t s) (repeat (bodyRead h))
 body-turn h t s = repeat-turn (bodyRead h) (body-shrinks h) t s

@@ -14,7 +14,7 @@ use Rattle.hoa_text.specs.Tokens.{Token, Stream, stands, over, broken}
 use Rattle.hoa_text.specs.Grammar.{numberOf, quotedOf, itemOf, isItem, isSign, next, rest, at, Result, gives, refuses, Parsed, due, onward, Turn, turn, size, repeat}
 use Rattle.hoa_text.specs.Header.{Items, Header, allBytes, among, once, statesGiven, statesItem, startGiven, startItem, nameGiven, naming, namesRead, namesGiven, namesItem, condition, departs, accepting, setsRead, setsGiven, setsItem, plain, skipped, small, opening, opened, itemRead}
 use Rattle.hoa_text.specs.Repetition.{Every, every-after, Fewer, Shrinks, repeat-turn}
-use Rattle.hoa_text.specs.Progress.{rest-size, next-size, Leaves, most-leaves, then-leaves, due-leaves, onward-fewer}
+use Rattle.hoa_text.specs.Progress.{rest-size, next-size, Leaves, most-leaves, then-leaves, due-leaves, onward-behind}
 
 -- ---- the items
 
@@ -72,10 +72,10 @@ skipped-size (broken q o) = omega arith
 
 -- ---- no bound is met
 
-item-fewer : {A : Type 0} (p : Token → Bool) (x : Option A) (read : Stream → Parsed Items) → ((u : Stream) → Leaves (size u) (read u))
-    → (s : Stream) → next p s ≡ true → Every (Fewer (size s)) (onward {B = Header × Stream} (once x (at s) (read (rest s))))
-item-fewer p none read g s e = onward-fewer (Header × Stream) p s (read (rest s)) e (g (rest s))
-item-fewer p (some a) read g s e = tt
+item-fewer : {A : Type 0} (x : Option A) (read : Stream → Parsed Items) → ((u : Stream) → Leaves (size u) (read u))
+    → (s : Stream) → Every (Fewer (size s)) (onward {B = Header × Stream} (once x (at s) (read (rest s))))
+item-fewer none read g s = onward-behind (Header × Stream) s (read (rest s)) (g (rest s))
+item-fewer (some a) read g s = tt
 
 other-fewer : (s : Stream) → next (λ t. option (itemOf t) false small) s ≡ true → size (skipped (rest s)) < size s
 other-fewer s e = omega (arith, next-size (λ t. option (itemOf t) false small) s e, skipped-size (rest s))
@@ -84,10 +84,10 @@ pub item-shrinks : Shrinks itemRead
 unfolding itemRead
 item-shrinks h s =
     let P : Result (Turn Items (Header × Stream)) → Type 0 = Every (Fewer (size s)) in
-    on-cond P (next (isItem "States") s) _ _ (item-fewer (isItem "States") (h .states) (statesItem h) (statesItem-leaves h) s)
-    (λ e. on-cond P (next (isItem "Start") s) _ _ (item-fewer (isItem "Start") (h .start) (startItem h) (startItem-leaves h) s)
-    (λ e. on-cond P (next (isItem "AP") s) _ _ (item-fewer (isItem "AP") (h .names) (namesItem h) (namesItem-leaves h) s)
-    (λ e. on-cond P (next (isItem "Acceptance") s) _ _ (item-fewer (isItem "Acceptance") (h .sets) (setsItem h) (setsItem-leaves h) s)
+    on-cond P (next (isItem "States") s) _ _ (λ e. item-fewer (h .states) (statesItem h) (statesItem-leaves h) s)
+    (λ e. on-cond P (next (isItem "Start") s) _ _ (λ e. item-fewer (h .start) (startItem h) (startItem-leaves h) s)
+    (λ e. on-cond P (next (isItem "AP") s) _ _ (λ e. item-fewer (h .names) (namesItem h) (namesItem-leaves h) s)
+    (λ e. on-cond P (next (isItem "Acceptance") s) _ _ (λ e. item-fewer (h .sets) (setsItem h) (setsItem-leaves h) s)
     (λ e. on-cond P (next (λ t. option (itemOf t) false small) s) _ _ (other-fewer s)
     (λ e. on-cond P (next (isSign "--BODY--") s) _ _ (λ e. every-after (Fewer (size s)) (opening h (at s) (rest s)) opened (λ g u. tt)) (λ e. tt))))))
 

@@ -55,7 +55,10 @@ due-leaves f (broken q o) = tt
 pub expect-leaves : {A : Type 0} (n : ℕ) (p : Token → Bool) (s : Stream) (k : Stream → Parsed A) → Leaves n (k (rest s)) → Leaves n (expect p s k)
 expect-leaves n p s k h = on-cond (Leaves n) (next p s) (k (rest s)) (refuses (Form (at s))) (λ e. h) (λ e. tt)
 
--- a turn that reads on behind its first token
-pub onward-fewer : {A : Type 0} (B : Type 0) (p : Token → Bool) (s : Stream) (x : Parsed A)
-    → next p s ≡ true → Leaves (size (rest s)) x → Every (Fewer (size s)) (onward {B = B} x)
-onward-fewer B p s x e g = every-onward (λ b u. size u < size s) (λ y. Unit {0}) x (rest-leaves (size s) s x (omega arith) g)
+-- a turn that goes on
+pub onward-fewer : {A : Type 0} (B : Type 0) (n : ℕ) (x : Parsed A) → Leaves n x → Every (Fewer n) (onward {B = B} x)
+onward-fewer B n x g = every-onward (λ b u. size u < n) (λ y. Unit {0}) x g
+
+-- behind its first token
+pub onward-behind : {A : Type 0} (B : Type 0) (s : Stream) (x : Parsed A) → Leaves (size (rest s)) x → Every (Fewer (size s)) (onward {B = B} x)
+onward-behind B s x g = onward-fewer B (size s) x (rest-leaves (size s) s x (omega arith) g)

@@ -2,8 +2,6 @@
 use mathlib.Core.Path.{subst}
 use borrow.Author.Needs.{needs}
 use denote.Ref.{now}
-use Rattle.hoa_text.specs.Body.{marked}
-use Rattle.hoa_text.specs.Tokens.{left}
 use Rattle.hoa_marks.specs.Answers.{MarksAnswer}
 use Rattle.hoa_edges.proofs.EdgeLaws.{marks-refused, marks-read}
 use Rattle.hoa_edges.proofs.marked.Statement.{statement}
@@ -21,12 +19,12 @@ enum-known-marks c = search needs
 returns : tie.Need-returns
 returns c =
     let a = c .before .before .before .before .before .args in
-    marks-refused _ _ _ _ _ _ (subst (MarksAnswer (now (a .text)) (a .at) (a .sets) (marked (a .sets) (left (now (a .text)) (a .at)))) (c .before .refusal .given .1) (c .before .before .before .marks .ensures))
+    marks-refused _ _ _ _ _ (c .before .before .before .before .before .pre .1) _ (subst (MarksAnswer (now (a .text)) (a .at) (a .sets)) (c .before .refusal .given .1) (c .before .before .before .marks .ensures))
 
 returns-2 : tie.Need-returns-2
 returns-2 c =
     let a = c .before .before .before .before .before .args in
-    marks-read _ _ _ _ _ _ _ (c .before .before .before .before .before .pre) (subst (MarksAnswer (now (a .text)) (a .at) (a .sets) (marked (a .sets) (left (now (a .text)) (a .at)))) (c .before .marks2 .given .1) (c .before .before .before .marks .ensures))
+    marks-read _ _ _ _ _ (c .before .before .before .before .before .pre .1) _ _ (c .before .before .before .before .before .pre .0) (subst (MarksAnswer (now (a .text)) (a .at) (a .sets)) (c .before .marks2 .given .1) (c .before .before .before .marks .ensures))
 
 pub marked-spec : {M : Type 1} → statement M
 marked-spec =

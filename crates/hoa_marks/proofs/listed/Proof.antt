@@ -17,7 +17,7 @@ abbrev μ-loop : tie.MeasureT-loop
 μ-loop text at sets set₀ i₀ set i = length text - i
 
 loop-holds : tie.Need-loop-holds Inv-loop μ-loop
-loop-holds c = record { is = λ l. refl; from = omega arith; to = λ l. l }
+loop-holds c = record { is = refl; from = omega arith; to = λ l. l }
 
 next-token-requires : tie.Need-next-token-requires Inv-loop μ-loop
 next-token-requires c κs = search needs
@@ -44,7 +44,7 @@ loop-less c =
 loop-again : tie.Need-loop-again Inv-loop μ-loop
 loop-again c =
     let k = subst (Reads _ _) (c .before .before .before .start .given .1) (c .before .before .before .before .before .next-token .ensures) in
-    mark-listed _ _ _ _ _ (c .before .before .before .before .before .before .loop .inv) _ _ _ k (c .before .if1 .left) _ (c .power-of-two .ensures .0)
+    mark-listed _ _ _ _ _ (c .before .before .before .before .before .before .loop .inv) _ _ _ k (c .before .before .before .before .before .before .before .before .pre) (c .before .if1 .left) _ (c .power-of-two .ensures .0)
 
 closed-requires : tie.Need-closed-requires Inv-loop μ-loop
 closed-requires c κs = search needs

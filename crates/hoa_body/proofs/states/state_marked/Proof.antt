@@ -2,8 +2,6 @@
 use mathlib.Core.Path.{subst}
 use borrow.Author.Needs.{needs}
 use denote.Ref.{now}
-use Rattle.hoa_text.specs.Body.{marked}
-use Rattle.hoa_text.specs.Tokens.{left}
 use Rattle.hoa_marks.specs.Answers.{MarksAnswer}
 use Rattle.hoa_body.proofs.StateLaws.{marks-refused, marks-read}
 use Rattle.hoa_body.proofs.states.state_marked.Statement.{statement}
@@ -27,7 +25,7 @@ returns c =
     let p = c .before .before .before .before .before .before .pre in
     let o = c .before .before .before .before .unquoted .result in
     marks-refused _ _ _ _ o (p .1) (c .before .before .before .before .unquoted .ensures) _
-    (subst (MarksAnswer (now (a .text)) o (a .sets) (marked (a .sets) (left (now (a .text)) o))) (c .before .refusal .given .1) (c .before .before .before .marks .ensures))
+    (subst (MarksAnswer (now (a .text)) o (a .sets)) (c .before .refusal .given .1) (c .before .before .before .marks .ensures))
 
 returns-2 : tie.Need-returns-2
 returns-2 c =
@@ -35,7 +33,7 @@ returns-2 c =
     let p = c .before .before .before .before .before .before .pre in
     let o = c .before .before .before .before .unquoted .result in
     marks-read _ _ _ _ o (p .1) (c .before .before .before .before .unquoted .ensures) _ _ (p .2)
-    (subst (MarksAnswer (now (a .text)) o (a .sets) (marked (a .sets) (left (now (a .text)) o))) (c .before .marks2 .given .1) (c .before .before .before .marks .ensures))
+    (subst (MarksAnswer (now (a .text)) o (a .sets)) (c .before .marks2 .given .1) (c .before .before .before .marks .ensures))
 
 pub state-marked-spec : {M : Type 1} → statement M
 state-marked-spec =
