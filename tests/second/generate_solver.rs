@@ -286,7 +286,7 @@ pub fn search_case(random: &mut Random) -> (Automaton, Vec<Vec<u8>>) {
     }
     let mut search = Search::new(&plan.reference);
     let mut answers = Vec::new();
-    for _ in 0..random.within(0, 10) {
+    for _ in 0..random.within(0, 12) {
         if search.finished {
             break;
         }
@@ -378,5 +378,33 @@ mod tests {
             count[end] += 1;
         }
         assert!(count.iter().all(|&times| times > 20), "{count:?}");
+    }
+
+    /// A table after two counts without one, "none" with 4 sets, and 8 states asked for again
+    /// where the best has more than 9.
+    #[test]
+    fn chains_go_through_the_counts() {
+        let mut random = Random::new(9);
+        let (mut skipped, mut all, mut again) = (0, 0, 0);
+        for _ in 0..1500 {
+            let (reference, answers) = search_case(&mut random);
+            let mut search = Search::new(&reference);
+            let mut nones = 0;
+            for answer in &answers {
+                let (n, m, best) = (search.n, search.m, search.best.states());
+                if search.answer(answer).is_err() {
+                    break;
+                }
+                if search.best.states() < best {
+                    skipped += (nones >= 2) as usize;
+                    nones = 0;
+                } else if search.m > m {
+                    nones += 1;
+                    again += (best > 9 && (n, search.n) == (8, 8)) as usize;
+                }
+            }
+            all += (search.finished && !search.open && search.m == 4 && search.n > 0) as usize;
+        }
+        assert!([skipped, all, again].iter().all(|&times| times > 20), "{skipped} {all} {again}");
     }
 }

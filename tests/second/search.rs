@@ -8,8 +8,6 @@ pub struct Search<'a> {
     pub best: Automaton,
     pub n: usize,
     pub m: usize,
-    /// Whether this m brought a table.
-    brought: bool,
     pub finished: bool,
     pub open: bool,
 }
@@ -20,7 +18,7 @@ impl<'a> Search<'a> {
     pub fn new(reference: &'a Automaton) -> Search<'a> {
         let n = (reference.states() - 1).min(MAX_CANDIDATE_STATES);
         let (m, best) = (reference.sets, reference.clone());
-        Search { reference, best, n, m, brought: false, finished: n == 0, open: false }
+        Search { reference, best, n, m, finished: n == 0, open: false }
     }
 
     /// One solver answer to the question that now stands. "A finished search .. says so and no
@@ -42,21 +40,19 @@ impl<'a> Search<'a> {
     /// so it has n states and m sets and was compared with the reference.
     fn found(&mut self, table: Automaton) {
         self.best = table;
-        self.brought = true;
         self.n -= 1;
         self.finished = self.n == 0;
     }
 
-    /// "None: if this m brought a table, m rises by one with n one below best; otherwise, or past
-    /// 4, it finishes."
+    /// E2: ""none" at m leads to m + 1, at one state below the best but at most 8, until m = 4 has
+    /// been tried." Then it finishes, and the last question stays.
     fn none(&mut self) {
-        if !self.brought || self.m == MAX_SETS {
+        if self.m == MAX_SETS {
             self.finished = true;
             return;
         }
         self.m += 1;
-        self.n = self.best.states() - 1;
-        self.brought = false;
+        self.n = (self.best.states() - 1).min(MAX_CANDIDATE_STATES);
     }
 
     /// "Unknown: it finishes, marked open."
@@ -122,12 +118,36 @@ mod tests {
     }
 
     #[test]
-    fn none_without_a_table_finishes() {
+    fn none_tries_every_count() {
         let reference = round(3, 1);
         let mut search = Search::new(&reference);
+        for m in 2..=4 {
+            search.answer(NONE).unwrap();
+            assert_eq!(asked(&search), (2, m, false, false));
+        }
         search.answer(NONE).unwrap();
-        assert_eq!(asked(&search), (2, 1, true, false));
+        assert_eq!(asked(&search), (2, 4, true, false));
         assert_eq!(search.best, reference);
+    }
+
+    #[test]
+    fn at_most_8_states_at_every_count() {
+        let reference = round(12, 2);
+        let mut search = Search::new(&reference);
+        search.answer(NONE).unwrap();
+        assert_eq!(asked(&search), (8, 3, false, false));
+        search.answer(&says_round(8, 3)).unwrap();
+        assert_eq!(asked(&search), (7, 3, false, false));
+        search.answer(NONE).unwrap();
+        assert_eq!(asked(&search), (7, 4, false, false));
+    }
+
+    #[test]
+    fn none_with_4_sets_finishes_at_once() {
+        let reference = round(3, 4);
+        let mut search = Search::new(&reference);
+        search.answer(NONE).unwrap();
+        assert_eq!(asked(&search), (2, 4, true, false));
     }
 
     #[test]
@@ -146,13 +166,15 @@ mod tests {
     }
 
     #[test]
-    fn none_twice_finishes() {
+    fn none_twice_takes_two_more_sets() {
         let reference = round(5, 1);
         let mut search = Search::new(&reference);
         search.answer(&says_round(4, 1)).unwrap();
         search.answer(NONE).unwrap();
         search.answer(NONE).unwrap();
-        assert_eq!(asked(&search), (3, 2, true, false));
+        assert_eq!(asked(&search), (3, 3, false, false));
+        search.answer(&says_round(3, 3)).unwrap();
+        assert_eq!(asked(&search), (2, 3, false, false));
     }
 
     #[test]

@@ -68,46 +68,59 @@ tables (c ∷ cs) = one-table (c .verdict) (c .reply .answer) + tables cs
 
 -- ---- what is asked, and why it finishes
 
--- "n states (1 to 8), m sets (0 to 4)": fewer states than best has, and no fewer sets than the reference has
-pub record Asks (a : Automaton) (s : Search) : Type 0 where
-  pub n-some : 1 ≤ s .n
-  pub n-le : s .n ≤ 8
-  pub n-fewer : s .n < s .best .states
-  pub m-from : a .sets ≤ s .m
-  pub m-le : s .m ≤ 4
-  pub not-open : s .open ≡ false
-
--- the verdict v was taken, on the question that s still holds
-pub record Heard (v : Verdict) (cs : List Call) (s : Search) : Type 0 where
+-- the verdict v was taken, on the question of n states and m sets
+pub record Heard (v : Verdict) (cs : List Call) (n m : ℕ) : Type 0 where
   pub call : Call
   pub listed : List·Memᴰ call cs
   pub is : call .verdict ≡ v
   pub was-taken : call .reply .answer ≡ Taken
-  pub same-n : call .from .n ≡ s .n
-  pub same-m : call .from .m ≡ s .m
+  pub asked-n : call .from .n ≡ n
+  pub asked-m : call .from .m ≡ m
 
--- a search that is finished has heard why: no table has fewer states than 1; "none", where this m brought no table or is the last; "unknown"
+-- "none" was taken with m sets, and with no fewer states than s asks for
+pub record Tried (cs : List Call) (s : Search) (m : ℕ) : Type 0 where
+  pub n : ℕ
+  pub n-from : s .n ≤ n
+  pub heard : Heard none cs n m
+
+-- the question of s, or its last: "one state below the best but at most 8", with one set more than the last count that had "none"; every count from the
+-- reference's on has been tried before
+pub record Asks (a : Automaton) (cs : List Call) (s : Search) : Type 0 where
+  pub n-is : s .n ≡ rule.below (s .best .states)
+  pub m-from : a .sets ≤ s .m
+  pub m-le : s .m ≤ 4
+  pub tried : (m : ℕ) → a .sets ≤ m → m < s .m → Tried cs s m
+
+-- a search that is finished has heard why: no table has fewer states than 1; "none" with 4 sets; "unknown"
 pub data Reason (cs : List Call) (s : Search) : Type 0 where
   smallest : s .best .states ≡ 1 → s .open ≡ false → Reason cs s
-  no-table : Heard none cs s → (s .brought ≡ false) ⊎ (s .m ≡ 4) → s .open ≡ false → Reason cs s
-  not-known : Heard unknown cs s → s .open ≡ true → Reason cs s
+  no-table : Heard none cs (s .n) 4 → s .m ≡ 4 → s .open ≡ false → Reason cs s
+  not-known : Heard unknown cs (s .n) (s .m) → s .open ≡ true → Reason cs s
+
+-- what one call does
+pub record Effect (c : Call) : Type 0 where
+  -- the best table stays, or one with fewer states takes its place
+  pub best : (c .reply .search .best ≡ c .from .best) ⊎ (c .reply .search .best .states < c .from .best .states)
+  -- a verdict that is not taken changes nothing, and a finished search takes none
+  pub not-taken : c .reply .answer ≢ Taken → c .reply .search ≡ c .from
+  pub finished : c .from .finished ≡ true → c .reply .answer ≢ Taken
 
 -- ---- what holds of a list of calls of a search for the reference a, and of the state s that they leave. Every beginning of the list is such a
 -- list, so it holds at every point.
 pub record Searches (a : Automaton) (cs : List Call) (s : Search) : Type 0 where
   pub reference : s .reference ≡ a
-  -- the best table agrees with the reference on every lasso word, and never has more states
+  -- the best table agrees with the reference on every lasso word
   pub valid : Valid (s .best)
   pub agrees : Agree (view (s .best)) (view a)
   pub states-le : s .best .states ≤ a .states
   pub same-propositions : s .best .propositions ≡ a .propositions
-  -- a question, or a reason to ask no more
-  pub asks : s .finished ≡ false → Asks a s
+  -- a question for at least one state, or a reason to ask no more
+  pub asks : Asks a cs s
+  pub n-some : s .finished ≡ false → 1 ≤ s .n
+  pub not-open : s .finished ≡ false → s .open ≡ false
   pub reason : s .finished ≡ true → Reason cs s
   -- it ends: so many tables and so many verdicts are taken, and no more
   pub tables-le : tables cs ≤ rule.below (a .states)
   pub taken-le : taken cs ≤ rule.below (a .states) + (4 - a .sets)
   pub at-most-12 : taken cs ≤ 12
-  -- a verdict that is not taken changes nothing, and a finished search takes none
-  pub not-taken : (c : Call) → List·Memᴰ c cs → c .reply .answer ≢ Taken → c .reply .search ≡ c .from
-  pub finished : (c : Call) → List·Memᴰ c cs → c .from .finished ≡ true → (c .reply .answer ≢ Taken) × (c .reply .search ≡ c .from)
+  pub each : (c : Call) → List·Memᴰ c cs → Effect c

@@ -1,13 +1,12 @@
 -- What every state of a search keeps, and how far each verdict that is taken brings it to its end.
 use mathlib.Core.Path.{_≡_, refl, sym, ap, _∙_, subst}
-use mathlib.Core.Bool.{Bool, true, false, cond, _&&_, true≢false}
+use mathlib.Core.Bool.{Bool, true, false, cond, true≢false}
 use Prim.Native.Nat.{ℕ, _+_, _-_, _≤_, _<_}
 use native.Mathlib.Omega.{arith}
-use borrow.Author.Tests.{ltb-true, eqb-false}
+use borrow.Author.Tests.{ltb-true, ltb-false, eqb-false}
 use lib.Dec.{ltb, eqb}
 use Rattle.meaning.specs.Agreement.{Agree}
 use Rattle.meaning.specs.Decision.{agree-self}
-use Rattle.meaning.specs.TestLaws.{and-left, and-right}
 use Rattle.automaton.specs.declared.Automaton.{Automaton}
 use Rattle.automaton.specs.Value.{Valid}
 use Rattle.automaton.specs.View.{view}
@@ -25,12 +24,9 @@ pub record Kept (a : Automaton) (s : Search) : Type 0 where
   pub agrees : Agree (view (s .best)) (view a)
   pub states-le : s .best .states ≤ a .states
   pub same-propositions : s .best .propositions ≡ a .propositions
-  pub n-le : s .n ≤ 8
-  pub n-fewer : s .n < s .best .states
+  pub n-is : s .n ≡ below (s .best .states)
   pub m-from : a .sets ≤ s .m
   pub m-le : s .m ≤ 4
-  -- a table that this m brought has one state more than is asked for now
-  pub brought-by : s .brought ≡ true → s .best .states ≡ s .n + 1
   pub n-some : s .finished ≡ false → 1 ≤ s .n
   pub not-open : s .finished ≡ false → s .open ≡ false
 
@@ -41,55 +37,45 @@ kept-fresh {a} v = record {
   agrees = agree-self (view-formed v);
   states-le = omega arith;
   same-propositions = refl;
-  n-le = omega arith;
-  n-fewer = omega (arith, v .start-lt);
+  n-is = refl;
   m-from = omega arith;
   m-le = v .sets-le;
-  brought-by = λ e. absurd (true≢false (sym e));
   n-some = λ e. omega (arith, v .start-lt, eqb-false (a .states) 1 e);
   not-open = λ e. refl;
 }
 
 module _ {a : Automaton} {s : Search} (k : Kept a s) (u : s .finished ≡ false) where
+  -- a table that is taken has fewer states than the best
+  pub found-fewer : {t : Automaton} → Fitting s t → t .states < s .best .states
+  found-fewer f = omega (arith, f .asked-for .states, k .n-is, k .n-some u)
+
   kept-found : {t : Automaton} → Fitting s t → Kept a (found t s)
-  kept-found {t} f =
-      let some : 1 ≤ s .n = k .n-some u in
-      record {
-        reference = k .reference;
-        valid = f .valid;
-        agrees = subst (λ b. Agree (view t) (view b)) (k .reference) (f .agrees);
-        states-le = omega (arith, f .asked-for .states, k .n-fewer, k .states-le);
-        same-propositions = f .same-propositions ∙ ap (λ b. b .propositions) (k .reference);
-        n-le = omega (arith, k .n-le);
-        n-fewer = omega (arith, f .asked-for .states);
-        m-from = k .m-from;
-        m-le = k .m-le;
-        brought-by = λ e. omega (arith, f .asked-for .states);
-        n-some = λ e. omega (arith, eqb-false (s .n - 1) 0 e);
-        not-open = λ e. k .not-open u;
-      }
+  kept-found {t} f = record {
+    reference = k .reference;
+    valid = f .valid;
+    agrees = subst (λ b. Agree (view t) (view b)) (k .reference) (f .agrees);
+    states-le = omega (arith, found-fewer f, k .states-le);
+    same-propositions = f .same-propositions ∙ ap (λ b. b .propositions) (k .reference);
+    n-is = omega (arith, f .asked-for .states, k .n-is);
+    m-from = k .m-from;
+    m-le = k .m-le;
+    n-some = λ e. omega (arith, eqb-false (s .n - 1) 0 e);
+    not-open = λ e. k .not-open u;
+  }
 
-  -- where m rises, n stays
-  pub risen-n : s .brought ≡ true → below (s .best .states) ≡ s .n
-  risen-n b = omega (arith, k .brought-by b, k .n-le)
-
-  kept-risen : s .brought ≡ true → s .m < 4 → Kept a (risen s)
-  kept-risen b h =
-      let e : below (s .best .states) ≡ s .n = risen-n b in
-      record {
-        reference = k .reference;
-        valid = k .valid;
-        agrees = k .agrees;
-        states-le = k .states-le;
-        same-propositions = k .same-propositions;
-        n-le = omega arith;
-        n-fewer = omega (arith, k .n-fewer);
-        m-from = omega (arith, k .m-from);
-        m-le = omega arith;
-        brought-by = λ f. absurd (true≢false (sym f));
-        n-some = λ f. omega (arith, k .n-some u);
-        not-open = λ f. k .not-open u;
-      }
+  kept-risen : s .m < 4 → Kept a (risen s)
+  kept-risen h = record {
+    reference = k .reference;
+    valid = k .valid;
+    agrees = k .agrees;
+    states-le = k .states-le;
+    same-propositions = k .same-propositions;
+    n-is = refl;
+    m-from = omega (arith, k .m-from);
+    m-le = omega arith;
+    n-some = λ f. omega (arith, k .n-is, k .n-some u);
+    not-open = λ f. k .not-open u;
+  }
 
   kept-ended : (marked : Bool) → Kept a (ended marked s)
   kept-ended marked = record {
@@ -98,22 +84,20 @@ module _ {a : Automaton} {s : Search} (k : Kept a s) (u : s .finished ≡ false)
     agrees = k .agrees;
     states-le = k .states-le;
     same-propositions = k .same-propositions;
-    n-le = k .n-le;
-    n-fewer = k .n-fewer;
+    n-is = k .n-is;
     m-from = k .m-from;
     m-le = k .m-le;
-    brought-by = k .brought-by;
     n-some = λ f. absurd (true≢false f);
     not-open = λ f. absurd (true≢false f);
   }
 
   -- "none", by its two cases
-  pub none-cases : (P : Search → Type 0) → (s .brought ≡ true → s .m < 4 → P (risen s)) → ((s .brought && ltb (s .m) 4) ≡ false → P (ended (s .open) s)) → P (none s)
-  none-cases P f g = go (s .brought && ltb (s .m) 4) refl
+  pub none-cases : (P : Search → Type 0) → (s .m < 4 → P (risen s)) → (s .m ≡ 4 → P (ended (s .open) s)) → P (none s)
+  none-cases P f g = go (ltb (s .m) 4) refl
     where
-      go : (b : Bool) → (s .brought && ltb (s .m) 4) ≡ b → P (cond b (risen s) (ended (s .open) s))
-      go true e = f (and-left (s .brought) (ltb (s .m) 4) e) (ltb-true _ _ (and-right (s .brought) (ltb (s .m) 4) e))
-      go false e = g e
+      go : (b : Bool) → ltb (s .m) 4 ≡ b → P (cond b (risen s) (ended (s .open) s))
+      go true e = f (ltb-true (s .m) 4 e)
+      go false e = g (omega (arith, ltb-false (s .m) 4 e, k .m-le))
 
   pub kept-moves : {v : Verdict} {t : Search} → Moves s v t → Kept a t
   kept-moves (by-table f) = kept-found f
@@ -146,6 +130,6 @@ module _ {a : Automaton} {s : Search} (k : Kept a s) (u : s .finished ≡ false)
   left-falls (by-table f) = fewer (eqb (s .n - 1) 0) (s .n - 1) (s .m) (omega (arith, k .n-some u))
   left-falls by-none =
       none-cases k u (λ t. left t < left s)
-      (λ b h. fewer (eqb (below (s .best .states)) 0) (below (s .best .states)) (s .m + 1) (omega (arith, risen-n k u b)))
+      (λ h. fewer (eqb (below (s .best .states)) 0) (below (s .best .states)) (s .m + 1) (omega (arith, k .n-is)))
       (λ e. over)
   left-falls by-unknown = over

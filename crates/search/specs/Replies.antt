@@ -51,7 +51,6 @@ nothing = record {
   best = empty;
   n = 0;
   m = 0;
-  brought = false;
   finished = true;
   «open» = false;
 }

@@ -46,7 +46,6 @@ fn nothing() -> Search
         best: empty,
         n: 0,
         m: 0,
-        brought: false,
         finished: true,
         open: false,
     }

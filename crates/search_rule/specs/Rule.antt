@@ -1,5 +1,5 @@
--- DEFINITIONS: document 01's "The search", its rule as functions from state to state.
-use mathlib.Core.Bool.{Bool, true, false, cond, _&&_}
+-- DEFINITIONS: document 01's "The search", with document 02's E2: its rule as functions from state to state.
+use mathlib.Core.Bool.{Bool, true, false, cond}
 use Prim.Native.Nat.{ℕ, _+_, _-_, min}
 use lib.Dec.{ltb, eqb}
 use Rattle.automaton.specs.declared.Automaton.{Automaton}
@@ -16,31 +16,28 @@ fresh a = record {
   best = a;
   n = below (a .states);
   m = a .sets;
-  brought = false;
   finished = eqb (a .states) 1;
   «open» = false;
 }
 
--- "Found: best changes, n falls by one; at 0 it finishes." This m has then brought a table.
+-- "Found: best changes, n falls by one; at 0 it finishes."
 abbrev pub found : Automaton → Search → Search
 found table s = record {
   reference = s .reference;
   best = table;
   n = s .n - 1;
   m = s .m;
-  brought = true;
   finished = eqb (s .n - 1) 0;
   «open» = s .open;
 }
 
--- "m rises by one with n one below best", and as at the start n is at most 8 and at 0 it finishes
+-- E2: "m + 1, at one state below the best but at most 8"; as after a table, at 0 it finishes
 abbrev pub risen : Search → Search
 risen s = record {
   reference = s .reference;
   best = s .best;
   n = below (s .best .states);
   m = s .m + 1;
-  brought = false;
   finished = eqb (below (s .best .states)) 0;
   «open» = s .open;
 }
@@ -52,14 +49,13 @@ ended marked s = record {
   best = s .best;
   n = s .n;
   m = s .m;
-  brought = s .brought;
   finished = true;
   «open» = marked;
 }
 
--- "None: if this m brought a table, m rises by one with n one below best; otherwise, or past 4, it finishes."
+-- E2: ""none" at m leads to m + 1 .. until m = 4 has been tried"; then it finishes
 abbrev pub none : Search → Search
-none s = cond (s .brought && ltb (s .m) 4) (risen s) (ended (s .open) s)
+none s = cond (ltb (s .m) 4) (risen s) (ended (s .open) s)
 
 -- "Unknown: it finishes, marked open."
 abbrev pub unknown : Search → Search

@@ -10,8 +10,6 @@ pub struct Search {
     pub best: Automaton,
     pub n: usize,
     pub m: usize,
-    // This m brought a table.
-    pub brought: bool,
     pub finished: bool,
     // It finished without an answer to its last question.
     pub open: bool,
@@ -25,7 +23,6 @@ pub fn fresh(reference: Automaton) -> Search
         best: reference,
         n: below(reference.states),
         m: reference.sets,
-        brought: false,
         finished: reference.states == 1,
         open: false,
     }
@@ -44,7 +41,6 @@ pub fn found(search: Search, table: Automaton) -> Search
         best: table,
         n,
         m: search.m,
-        brought: true,
         finished: n == 0,
         open: search.open,
     }
@@ -53,7 +49,7 @@ pub fn found(search: Search, table: Automaton) -> Search
 pub fn none(search: Search) -> Search
     ensures { λ r. ⌜ r ≡ none search ⌝ }
 {
-    if search.brought & (search.m < Automaton::SETS) {
+    if search.m < Automaton::SETS {
         return rise(search);
     }
     finish(search, search.open)
@@ -74,14 +70,13 @@ fn rise(search: Search) -> Search
 {
     let reference = search.reference;
     let best = search.best;
-    let n = below(best.states);
+    let below_best = below(best.states);
     Search {
         reference,
         best,
-        n,
+        n: below_best,
         m: search.m + 1,
-        brought: false,
-        finished: n == 0,
+        finished: below_best == 0,
         open: search.open,
     }
 }
