@@ -83,8 +83,7 @@ pub record Tried (cs : List Call) (s : Search) (m : ℕ) : Type 0 where
   pub n-from : s .n ≤ n
   pub heard : Heard none cs n m
 
--- the question of s, or its last: "one state below the best but at most 8", with one set more than the last count that had "none"; every count from the
--- reference's on has been tried before
+-- the question of s, or its last: "at one state below the best but at most 8", and at a count before which every one from the reference's on was tried
 pub record Asks (a : Automaton) (cs : List Call) (s : Search) : Type 0 where
   pub n-is : s .n ≡ rule.below (s .best .states)
   pub m-from : a .sets ≤ s .m
