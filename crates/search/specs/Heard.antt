@@ -11,7 +11,7 @@ use Rattle.automaton.specs.declared.Automaton.{Automaton}
 use Rattle.search_rule.specs.declared.Search.{Search}
 use Rattle.search_rule.specs.Rule.{below}
 use Rattle.search.specs.declared.Answer.the-variants.{Taken}
-use Rattle.search.specs.Calls.{Verdict, table, none, unknown, Call, Calls, after, Heard, Tried, Reason, smallest, no-table, not-known}
+use Rattle.search.specs.Calls.{Verdict, none, unknown, Call, Calls, after, Heard, Tried, Reason, smallest, no-table, not-known}
 use Rattle.search.specs.Moves.{Step, same, moved, Moves, by-table, by-none, by-unknown, step}
 use Rattle.search.specs.Kept.{Kept, none-cases}
 use Rattle.search.specs.Lists.{kept-step, after-finished, tables-n}
