@@ -9,14 +9,14 @@ use borrow.Author.Tests.{eq-eqb, ne-eqb}
 use lib.ListN.{length}
 use Rattle.automaton.specs.declared.Automaton.{Automaton}
 use Rattle.automaton.specs.Value.{Valid}
-use Rattle.automaton.specs.View.{view}
-use Rattle.encoding.specs.Variables.{base-variables}
-use Rattle.encoding.specs.Clauses.{base-file}
 use Rattle.encoding.specs.Loops.{total}
-use Rattle.encoding.specs.Base.{base-length}
+use Rattle.encoding.specs.NamedFile.{named-length}
 use Rattle.encoding.specs.Numbering.{split}
+use Rattle.encoding.specs.Named.{variablesFor, fileFor}
+use Rattle.clause_sizes.specs.declared.Target.{Target}
+use Rattle.clause_sizes.specs.Targets.{named, Dimensioned, last, file}
 use Rattle.clause_sizes.specs.declared.Sizes.{Sizes}
-use Rattle.clause_sizes.specs.Sizes.{Dimensioned, Fitting}
+use Rattle.clause_sizes.specs.Sizes.{Fitting, targetOf}
 use Rattle.clause_sizes.specs.Limits.{candidate-subsets-le}
 use Rattle.clause_sizes.specs.Numbers.{counted, lastVariable}
 use Rattle.clause_indices.specs.declared.extent.Extent.{Extent}
@@ -75,24 +75,24 @@ pub closures-cap : {n c : ℕ} → n ≤ 8 → c ≤ 1048576 → n * n * c ≤ 6
 closures-cap h l = mul-le-mul (square-cap h) l
 
 module _ {a : Automaton} {z : Sizes} (w : Measured a z) where
-  pub variables-are : lastVariable z ≡ base-variables (view a) (z .candidate .states) (z .candidate .sets)
-  variables-are = ap (λ y. base-variables (counted y) (z .candidate .states) (z .candidate .sets)) (w .sized)
+  pub variables-are : lastVariable z ≡ last a (targetOf z)
+  variables-are = ap (λ y. variablesFor (counted y) (named (targetOf z))) (w .sized)
 
   pub clauses-are : {g : Extent} {c : ℕ} → ExtentOf z g → c ≡ closureCount z (a .marks)
-      → g .first + g .second + g .third + z .candidate .states * z .candidate .states * c ≡ length (base-file (view a) (z .candidate .states) (z .candidate .sets))
+      → g .first + g .second + g .third + z .candidate .states * z .candidate .states * c ≡ length (file a (targetOf z))
   clauses-are k e =
       omega (
         arith,
         k .first-is,
         k .second-is,
         k .third-is,
-        base-length (tabled z (a .start) (a .destinations) (a .marks)) (z .candidate .states) (z .candidate .sets),
+        named-length (tabled z (a .start) (a .destinations) (a .marks)) (named (targetOf z)),
         closure-length z (a .start) (a .destinations) (a .marks) (measured-tables w),
         ap (λ c. z .candidate .states * z .candidate .states * c) e,
       )
-      ∙ ap (λ y. length (base-file (tabled y (a .start) (a .destinations) (a .marks)) (z .candidate .states) (z .candidate .sets))) (w .sized)
+      ∙ ap (λ y. length (fileFor (tabled y (a .start) (a .destinations) (a .marks)) (named (targetOf z)))) (w .sized)
 
 -- the header's answer, where nothing is turned down
-pub headed : (a : Automaton) (n m : ℕ) (t : Totals) → Valid a → Dimensioned n m → HeaderTotals a n m t → Headed a n m t
-headed a n m (Of last count) v i h = (v, i, h)
-headed a n m (Refused f) v i h = absurd h
+pub headed : (a : Automaton) (τ : Target) (t : Totals) → Valid a → Dimensioned τ → HeaderTotals a τ t → Headed a τ t
+headed a τ (Of variables clauses) v i h = (v, i, h)
+headed a τ (Refused f) v i h = absurd h

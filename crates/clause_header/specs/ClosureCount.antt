@@ -12,9 +12,11 @@ use Rattle.encoding.specs.Clauses.{_∪_, exactly-one, group₄}
 use Rattle.encoding.specs.Loops.{total}
 use Rattle.encoding.specs.MarkSets.{set-of-has}
 use Rattle.encoding.specs.Counts.{length₄}
-use Rattle.encoding.specs.Base.{exactly-one-full}
+use Rattle.encoding.specs.NamedFile.{exactly-one-full}
+use Rattle.clause_sizes.specs.Targets.{named}
 use Rattle.clause_sizes.specs.declared.Sizes.{Sizes}
 use Rattle.clause_sizes.specs.Numbers.{numberOf}
+use Rattle.clause_sizes.specs.Sizes.{targetOf}
 use Rattle.clause_list.specs.Tables.{tabled, taskOf, Tables}
 use Rattle.clause_header.specs.FullPairs.{full-pairs}
 use Rattle.clause_header.specs.Sums.{total-same, total-swap, total-total, passing-xor}
@@ -59,7 +61,7 @@ module _ (z : Sizes) (start : ℕ) (destinations marks : List ℕ) (tables : Tab
       tested : (I J K : ℕ) → I < 2 ^ m → J < 2 ^ s → K < 2 ^ m
           → exactly-one (taskOf z start destinations marks) v l I J K ≡ xor (eqb (I ∪ K) (2 ^ m - 1)) (eqb (J ∪ getD marks (v * 16 + l) 0) (2 ^ s - 1))
       tested I J K hI hJ hK =
-          exactly-one-full (tabled z start destinations marks) (z .candidate .states) m (λ S. refl) v l I J K hI hJ hK
+          exactly-one-full (tabled z start destinations marks) (named (targetOf z)) (λ S. refl) v l I J K hI hJ hK
           ∙ ap (λ F. xor (eqb (I ∪ K) (2 ^ m - 1)) (eqb (J ∪ F) (2 ^ s - 1))) (set-of-has s (getD marks (v * 16 + l) 0) (tables .marks-lt v l hv hl))
 
   pub closure-length : length (group₄ (taskOf z start destinations marks) (numberOf z)) ≡ z .candidate .states * z .candidate .states * closureCount z marks

@@ -5,12 +5,13 @@ use clause_indices::entry;
 use clause_indices::extent::extent_of;
 use clause_sizes::Sized;
 use clause_sizes::Sizes;
+use clause_sizes::Target;
 use clause_sizes::last_variable;
 use clause_sizes::measure;
 use refusals::Refusal;
 ghost use mathlib.Core.Path.{_≡_};
 ghost use Prim.Native.Nat.{_^_, _≤_, _<_};
-ghost use Rattle.clause_sizes.specs.Sizes.{Fitting};
+ghost use Rattle.clause_sizes.specs.Sizes.{Fitting, targetOf};
 ghost use Rattle.clause_sizes.specs.Measured.{Measured};
 ghost use Rattle.clause_header.specs.Header.{Headed, HeaderTotals};
 ghost use Rattle.clause_header.specs.ClosureCount.{pairsFor, closuresBy, closureCount};
@@ -21,11 +22,11 @@ pub enum Totals {
     Refused(Refusal),
 }
 
-// "p cnf V C": both numbers of the file for the reference, n and m.
-pub fn header(reference: Automaton, n: usize, m: usize) -> Totals
-    ensures { λ r. ⌜ Headed reference n m r ⌝ }
+// "p cnf V C": both numbers of the file for the reference and the target.
+pub fn header(reference: Automaton, target: Target) -> Totals
+    ensures { λ r. ⌜ Headed reference target r ⌝ }
 {
-    let sized = measure(reference, n, m);
+    let sized = measure(reference, target);
     match sized {
         Sized::Of(z) => totals_of(reference, z),
         Sized::Refused(refusal) => Totals::Refused(refusal),
@@ -34,7 +35,7 @@ pub fn header(reference: Automaton, n: usize, m: usize) -> Totals
 
 fn totals_of(reference: Automaton, z: Sizes) -> Totals
     requires { ⌜ Measured reference z ⌝ }
-    ensures { λ r. ⌜ HeaderTotals reference (z .candidate .states) (z .candidate .sets) r ⌝ }
+    ensures { λ r. ⌜ HeaderTotals reference (targetOf z) r ⌝ }
 {
     let marks = reference.marks;
     let g = extent_of(z);

@@ -12,6 +12,7 @@ use Rattle.automaton.specs.declared.Automaton.{Automaton}
 use Rattle.refusals.specs.declared.Code.{Code}
 use Rattle.refusals.specs.declared.Refusal.{Refusal}
 use Rattle.decimal.specs.Writing.{wrote-length, wrote-front}
+use Rattle.clause_sizes.specs.declared.Target.{Target}
 use Rattle.clause_step.specs.declared.Answer.{Answer}
 use Rattle.clause_step.specs.declared.Answer.the-variants.{Written, Ended, Refused}
 use Rattle.clause_step.specs.declared.Handed.{Handed}
@@ -22,21 +23,21 @@ use Rattle.clause_words.specs.Written.{LineIfRoom}
 use Rattle.clause_line.specs.Line.{LineAnswers, LineStepped}
 use Rattle.clause_line.specs.LineLength.{step-line-le}
 
-module _ (a : Automaton) (n m x : ℕ) (e : List ℤ) (h : Handed) (s : Stepped a n m x (replicate 8 (pos 0)) e h) (d : List ℕ) (room : 80 ≤ length d) where
+module _ (a : Automaton) (τ : Target) (x : ℕ) (e : List ℤ) (h : Handed) (s : Stepped a τ x (replicate 8 (pos 0)) e h) (d : List ℕ) (room : 80 ≤ length d) where
   -- the step's buffer sufficed, and so does that of the line
-  accepted : Accepted 8 8 a n m x → Accepted 80 (length d) a n m x
+  accepted : Accepted 8 8 a τ x → Accepted 80 (length d) a τ x
   accepted k = record { room = room; valid = k .valid; in-range = k .in-range; dimensioned = k .dimensioned }
 
-  turned-down : {f : Refusal} {c : Option Code} → TurnedDown 8 8 a n m x f c → TurnedDown 80 (length d) a n m x f c
+  turned-down : {f : Refusal} {c : Option Code} → TurnedDown 8 8 a τ x f c → TurnedDown 80 (length d) a τ x f c
   turned-down (short l) = absurd (omega arith)
   turned-down (outside r l) = outside room l
   turned-down (dimensions r v l i) = dimensions room v l i
 
   -- no clause was handed out
-  pub line-none : OneOf (1 ∷ 2 ∷ []) (tagOf (declared enum) (h .answer)) → LineStepped a n m x d d h
+  pub line-none : OneOf (1 ∷ 2 ∷ []) (tagOf (declared enum) (h .answer)) → LineStepped a τ x d d h
   line-none t = go (h .answer) t s
     where
-      go : (w : Answer) → OneOf (1 ∷ 2 ∷ []) (tagOf (declared enum) w) → StepAnswers a n m x (replicate 8 (pos 0)) e w (h .position) → LineAnswers a n m x d d w (h .position)
+      go : (w : Answer) → OneOf (1 ∷ 2 ∷ []) (tagOf (declared enum) w) → StepAnswers a τ x (replicate 8 (pos 0)) e w (h .position) → LineAnswers a τ x d d w (h .position)
       go (Written k) t s = absurd (miss (1 ∷ 2 ∷ []) 0 tt t)
       go Ended t (ok, (f, w)) = (accepted ok, (f, refl))
       go (Refused g) t (k, p, w) = (turned-down k, p, refl)
@@ -44,15 +45,15 @@ module _ (a : Automaton) (n m x : ℕ) (e : List ℤ) (h : Handed) (s : Stepped 
   -- a clause was, and stands at the start of the step's buffer
   module _ {k : ℕ} (q : h .answer ≡ Written k) where
     abbrev Handed-out : Type 0
-    Handed-out = StepAnswers a n m x (replicate 8 (pos 0)) e (Written k) (h .position)
+    Handed-out = StepAnswers a τ x (replicate 8 (pos 0)) e (Written k) (h .position)
 
     written : Handed-out
-    written = subst (λ w. StepAnswers a n m x (replicate 8 (pos 0)) e w (h .position)) q s
+    written = subst (λ w. StepAnswers a τ x (replicate 8 (pos 0)) e w (h .position)) q s
 
     pub clause-room : k ≤ length e
     clause-room = let (ok, (c, f, w)) = written in omega (arith, w .room, wrote-length w)
 
-    pub line-written : {g : List ℕ} {r : ℕ} → LineIfRoom d 0 (take k e) g r → LineAnswers a n m x d g (Written r) (h .position)
+    pub line-written : {g : List ℕ} {r : ℕ} → LineIfRoom d 0 (take k e) g r → LineAnswers a τ x d g (Written r) (h .position)
     line-written {g} {r} l =
         let (ok, (c, f, w)) = written in
         let short : length (lineText c) ≤ 80 = step-line-le (ok .valid) (ok .dimensioned) x f in

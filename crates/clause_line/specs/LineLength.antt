@@ -14,16 +14,19 @@ use Rattle.automaton.specs.declared.Automaton.{Automaton}
 use Rattle.automaton.specs.Value.{Valid}
 use Rattle.automaton.specs.View.{view}
 use Rattle.automaton.specs.ViewLaws.{view-formed}
-use Rattle.encoding.specs.Variables.{Task, Var, base, base-number, base-variables}
-use Rattle.encoding.specs.Clauses.{not-marks, totality, initial, successor, extension, closure, base-file}
+use Rattle.encoding.specs.Variables.{Task, Var}
+use Rattle.encoding.specs.Clauses.{not-marks, totality, initial, successor, extension, closure}
 use Rattle.encoding.specs.Loops.{each-length}
 use Rattle.encoding.specs.Membership.{Listed, a-totality, the-initial, a-successor, an-extension, a-closure, listed}
 use Rattle.encoding.specs.Literals.{IsLiteral, literals}
-use Rattle.encoding.specs.Base.{base-numbering, base-well-posed}
+use Rattle.encoding.specs.NamedFile.{named-numbering, named-well-posed}
+use Rattle.encoding.specs.Named.{taskFor, numberFor, variablesFor, fileFor, Named}
 use Rattle.decimal.specs.Digits.{decimal-at-most}
+use Rattle.clause_sizes.specs.declared.Target.{Target}
+use Rattle.clause_sizes.specs.Targets.{named, Dimensioned, task, numbers, file}
 use Rattle.clause_sizes.specs.declared.Sizes.{Sizes}
-use Rattle.clause_sizes.specs.Sizes.{Dimensioned}
 use Rattle.clause_sizes.specs.Numbers.{numberOf}
+use Rattle.clause_sizes.specs.Sizes.{targetOf}
 use Rattle.clause_list.specs.Tables.{tabled, taskOf, Tables}
 use Rattle.clause_list.specs.Next.{handed, next-clause, clauses-from}
 use Rattle.clause_list.specs.Following.{from-in-file, found-in-file}
@@ -65,8 +68,10 @@ abs-negated (suc k) = refl
 literal-variable : (num : Var → ℕ) (x : ℤ) (y : Var) → IsLiteral num x y → natAbs x ≡ num y
 literal-variable num x y = ⊎-elim (λ e. ap natAbs e) (λ e. ap natAbs e ∙ abs-negated (num y))
 
-pub variables-le : (R : Aut) (n m : ℕ) → n ≤ 8 → m ≤ 4 → R .states ≤ 16 → R .letters ≤ 16 → R .sets ≤ 4 → base-variables R n m ≤ 4_199_424
-variables-le R n m hn hm hr hL hs =
+pub variables-le : (R : Aut) (t : Named) → t .n ≤ 8 → t .m ≤ 4 → R .states ≤ 16 → R .letters ≤ 16 → R .sets ≤ 4 → variablesFor R t ≤ 4_199_424
+variables-le R t hn hm hr hL hs =
+    let n = t .n in
+    let m = t .m in
     let M : 2 ^ m ≤ 16 = pow-mono {j = 4} hm in
     let S : 2 ^ R .sets ≤ 16 = pow-mono {j = 4} hs in
     let steps : n * n * R .letters ≤ 1024 = mul-le-mul (mul-le-mul hn hn) hL in
@@ -75,33 +80,33 @@ variables-le R n m hn hm hr hL hs =
     omega arith
 
 -- a line of the file
-file-line-le : (R : Aut) (n m : ℕ) → WellFormed R → 0 < n → n ≤ 8 → m ≤ 4 → R .states ≤ 16 → R .letters ≤ 16 → R .sets ≤ 4
-    → (c : List ℤ) → List·Memᴰ c (base-file R n m) → length (lineText c) ≤ 80
-file-line-le R n m F some hn hm hr hL hs c k =
-    let num = base-number R n m in
+file-line-le : (R : Aut) (t : Named) → WellFormed R → 0 < t .n → t .n ≤ 8 → t .m ≤ 4 → R .states ≤ 16 → R .letters ≤ 16 → R .sets ≤ 4
+    → (c : List ℤ) → List·Memᴰ c (fileFor R t) → length (lineText c) ≤ 80
+file-line-le R t F some hn hm hr hL hs c k =
+    let num = numberFor R t in
     omega (
       arith,
-      clause-length (base R n m) num c hn hm (listed (base R n m) num c .0 k),
+      clause-length (taskFor R t) num c hn hm (listed (taskFor R t) num c .0 k),
       line-le c (λ x i.
-          let (y, here, e) = literals (base-well-posed R n m F some) num c k x i in
-          omega (arith, literal-variable num x y e, base-numbering R n m .to-last y here, variables-le R n m hn hm hr hL hs)),
+          let (y, here, e) = literals (named-well-posed R t F some) num c k x i in
+          omega (arith, literal-variable num x y e, named-numbering R t .to-last y here, variables-le R t hn hm hr hL hs)),
     )
 
 pub found-line-le : (z : Sizes) (start : ℕ) (destinations marks : List ℕ) → Tables z destinations marks → start < z .reference .states
     → {c : List ℤ} {y : ℕ} (x : ℕ) → next-clause (taskOf z start destinations marks) (numberOf z) x ≡ handed c y → length (lineText c) ≤ 80
 found-line-le z start destinations marks tables h {c} x e =
     let f = tables .fits in
-    file-line-le (tabled z start destinations marks) (z .candidate .states) (z .candidate .sets)
+    file-line-le (tabled z start destinations marks) (named (targetOf z))
     (record { start-lt = h; step-lt = tables .step-lt; own-sets = all-same (z .reference .sets) })
     (f .n-some) (f .n-le) (f .m-le) (f .r-le) (f .letters-le) (f .s-le) c (found-in-file (taskOf z start destinations marks) (numberOf z) x e)
 
-module _ {a : Automaton} {n m : ℕ} (v : Valid a) (d : Dimensioned n m) where
-  reference-line-le : (c : List ℤ) → List·Memᴰ c (base-file (view a) n m) → length (lineText c) ≤ 80
-  reference-line-le = file-line-le (view a) n m (view-formed v) (d .n-some) (d .n-le) (d .m-le) (v .states-le) (pow-mono {j = 4} (v .propositions-le)) (v .sets-le)
+module _ {a : Automaton} {τ : Target} (v : Valid a) (d : Dimensioned τ) where
+  reference-line-le : (c : List ℤ) → List·Memᴰ c (file a τ) → length (lineText c) ≤ 80
+  reference-line-le = file-line-le (view a) (named τ) (view-formed v) (d .n-some) (d .n-le) (d .m-le) (v .states-le) (pow-mono {j = 4} (v .propositions-le)) (v .sets-le)
 
   -- the line of a clause that is handed out, or is left, of the file for a reference
-  pub step-line-le : (x : ℕ) {c : List ℤ} {y : ℕ} → found-from a n m x ≡ handed c y → length (lineText c) ≤ 80
-  step-line-le x {c} e = reference-line-le c (found-in-file (base (view a) n m) (base-number (view a) n m) x e)
+  pub step-line-le : (x : ℕ) {c : List ℤ} {y : ℕ} → found-from a τ x ≡ handed c y → length (lineText c) ≤ 80
+  step-line-le x {c} e = reference-line-le c (found-in-file (task a τ) (numbers a τ) x e)
 
-  pub left-line-le : (y : ℕ) {c : List ℤ} {cs : List (List ℤ)} → clauses-from (base (view a) n m) (base-number (view a) n m) y ≡ c ∷ cs → length (lineText c) ≤ 80
-  left-line-le y {c} e = reference-line-le c (from-in-file (base (view a) n m) (base-number (view a) n m) y (subst (List·Memᴰ c) (sym e) (List·Memᴰ·head refl)))
+  pub left-line-le : (y : ℕ) {c : List ℤ} {cs : List (List ℤ)} → clauses-from (task a τ) (numbers a τ) y ≡ c ∷ cs → length (lineText c) ≤ 80
+  left-line-le y {c} e = reference-line-le c (from-in-file (task a τ) (numbers a τ) y (subst (List·Memᴰ c) (sym e) (List·Memᴰ·head refl)))

@@ -1,18 +1,19 @@
 -- The tables of a measured reference fit its sizes, and the clauses made of them are those of its file.
 use mathlib.Core.Path.{_≡_, sym, ap, subst}
-use Prim.Native.Nat.{ℕ, _<_}
+use Prim.Native.Nat.{_<_}
 use Rattle.automaton.specs.declared.Automaton.{Automaton}
 use Rattle.automaton.specs.Value.{Valid}
-use Rattle.automaton.specs.View.{view}
-use Rattle.encoding.specs.Variables.{base, base-number}
+use Rattle.encoding.specs.Named.{taskFor, numberFor}
+use Rattle.clause_sizes.specs.declared.Target.{Target}
 use Rattle.clause_sizes.specs.declared.Sizes.{Sizes}
-use Rattle.clause_sizes.specs.Sizes.{Dimensioned, sizesOf}
+use Rattle.clause_sizes.specs.Targets.{named, Dimensioned, task, numbers}
+use Rattle.clause_sizes.specs.Sizes.{sizesOf, targetOf}
 use Rattle.clause_sizes.specs.Measured.{Measured}
 use Rattle.clause_sizes.specs.Numbers.{counted, numberOf}
 use Rattle.clause_sizes.specs.Limits.{sizes-fit}
 use Rattle.clause_list.specs.Tables.{tabled, taskOf, Tables}
 
-tables-fit : {a : Automaton} {n m : ℕ} → Valid a → Dimensioned n m → Tables (sizesOf a n m) (a .destinations) (a .marks)
+tables-fit : {a : Automaton} {τ : Target} → Valid a → Dimensioned τ → Tables (sizesOf a τ) (a .destinations) (a .marks)
 tables-fit v d = record { fits = sizes-fit v d; step-lt = v .destination-lt; marks-lt = v .marks-lt }
 
 module _ {a : Automaton} {z : Sizes} (m : Measured a z) where
@@ -23,8 +24,8 @@ module _ {a : Automaton} {z : Sizes} (m : Measured a z) where
   measured-start = subst (λ z. a .start < z .reference .states) (sym (m .sized)) (m .valid .start-lt)
 
   -- the clauses are those of the file for the reference
-  pub measured-task : taskOf z (a .start) (a .destinations) (a .marks) ≡ base (view a) (z .candidate .states) (z .candidate .sets)
-  measured-task = ap (λ y. base (tabled y (a .start) (a .destinations) (a .marks)) (z .candidate .states) (z .candidate .sets)) (m .sized)
+  pub measured-task : taskOf z (a .start) (a .destinations) (a .marks) ≡ task a (targetOf z)
+  measured-task = ap (λ y. taskFor (tabled y (a .start) (a .destinations) (a .marks)) (named (targetOf z))) (m .sized)
 
-  pub measured-number : numberOf z ≡ base-number (view a) (z .candidate .states) (z .candidate .sets)
-  measured-number = ap (λ y. base-number (counted y) (z .candidate .states) (z .candidate .sets)) (m .sized)
+  pub measured-number : numberOf z ≡ numbers a (targetOf z)
+  measured-number = ap (λ y. numberFor (counted y) (named (targetOf z))) (m .sized)

@@ -10,10 +10,12 @@ use Rattle.meaning.specs.Automata.{EverySet}
 use Rattle.encoding.specs.Variables.{Task}
 use Rattle.encoding.specs.Clauses.{_∪_, only, marks-of, totality, initial, successor, extension, closure, not-marks}
 use Rattle.encoding.specs.MarkSets.{set-of-has}
-use Rattle.encoding.specs.Base.{exactly-one-full}
+use Rattle.encoding.specs.NamedFile.{exactly-one-full}
 use Rattle.encoding.specs.Positions.{at₁, successor-at, at₃, at₄}
 use Rattle.decimal.specs.Wrote.{Wrote}
 use Rattle.clause_sizes.specs.declared.Sizes.{Sizes}
+use Rattle.clause_sizes.specs.Targets.{named}
+use Rattle.clause_sizes.specs.Sizes.{targetOf}
 use Rattle.clause_sizes.specs.Numbers.{numberOf}
 use Rattle.clause_list.specs.Tables.{tabled, taskOf, Tables}
 use Rattle.clause_list.specs.Groups.{totalityOf, initialOf, successorOf, extensionOf}
@@ -85,5 +87,5 @@ module _ (z : Sizes) (start : ℕ) (destinations marks : List ℕ) where
         let w = closure-within z destinations marks tables x h in
         let i = closureIndices z destinations x in
         ap (λ b. only b (premiseOf z i))
-        (exactly-one-full (tabled z start destinations marks) (z .candidate .states) (z .candidate .sets) (λ S. refl) (i .v .0) (i .l) (i .i) (i .j) (i .k) (w .i-lt) (w .j-lt) (w .k-lt)
+        (exactly-one-full (tabled z start destinations marks) (named (targetOf z)) (λ S. refl) (i .v .0) (i .l) (i .i) (i .j) (i .k) (w .i-lt) (w .j-lt) (w .k-lt)
         ∙ ap (λ F. oneFull z (i .i ∪ i .k) (i .j ∪ F)) (marks-is (i .v .0) (i .l) (w .v-lt) (w .l-lt)))

@@ -5,9 +5,11 @@ use lib.ListN.{getD}
 use Rattle.meaning.specs.Automata.{Aut}
 use Rattle.meaning.specs.BitSet.{has}
 use Rattle.meaning.specs.Tests.{all}
-use Rattle.encoding.specs.Variables.{Task, base}
+use Rattle.encoding.specs.Variables.{Task}
+use Rattle.encoding.specs.Named.{taskFor}
 use Rattle.clause_sizes.specs.declared.Sizes.{Sizes}
-use Rattle.clause_sizes.specs.Sizes.{Fitting}
+use Rattle.clause_sizes.specs.Sizes.{Fitting, targetOf}
+use Rattle.clause_sizes.specs.Targets.{named}
 
 abbrev pub tabled : Sizes → ℕ → List ℕ → List ℕ → Aut
 tabled z start destinations marks = record {
@@ -21,7 +23,7 @@ tabled z start destinations marks = record {
 }
 
 abbrev pub taskOf : Sizes → ℕ → List ℕ → List ℕ → Task
-taskOf z start destinations marks = base (tabled z start destinations marks) (z .candidate .states) (z .candidate .sets)
+taskOf z start destinations marks = taskFor (tabled z start destinations marks) (named (targetOf z))
 
 -- destinations are states
 abbrev pub StepsWithin : Sizes → List ℕ → Type 0

@@ -1,3 +1,4 @@
+pub mod Targets
 pub mod Sizes
 pub mod Numbers
 pub mod Measured

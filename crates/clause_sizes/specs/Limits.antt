@@ -1,4 +1,4 @@
--- A reference in "The automaton" with n and m in their limits has sizes that fit, and their numbers are those of its file; bounds of sizes.
+-- A reference in "The automaton" with a target in its limits has sizes that fit, and their numbers are those of its file; bounds of sizes.
 use mathlib.Core.Path.{_≡_, refl, sym}
 use native.Mathlib.Omega.{arith}
 use lib.Pow.{pow-pos}
@@ -6,15 +6,16 @@ use Prim.Native.Nat.{ℕ, _+_, _*_, _^_, _≤_}
 use native.Mathlib.Nat.{mul-le-mul}
 use Rattle.automaton.specs.declared.Automaton.{Automaton}
 use Rattle.automaton.specs.Value.{Valid}
-use Rattle.automaton.specs.View.{view}
 use Rattle.bits.specs.Powers.{power-le}
 use Rattle.automaton.specs.Letters.{letters-le}
-use Rattle.encoding.specs.Variables.{base-number, base-variables}
+use Rattle.encoding.specs.Named.{tableVariablesFor}
+use Rattle.clause_sizes.specs.declared.Target.{Target}
 use Rattle.clause_sizes.specs.declared.Sizes.{Sizes}
-use Rattle.clause_sizes.specs.Sizes.{Dimensioned, Fitting, sizesOf}
-use Rattle.clause_sizes.specs.Numbers.{numberOf, lastVariable}
+use Rattle.clause_sizes.specs.Targets.{named, Dimensioned, numbers, last}
+use Rattle.clause_sizes.specs.Sizes.{Fitting, sizesOf, targetOf}
+use Rattle.clause_sizes.specs.Numbers.{counted, numberOf, lastVariable}
 
-pub sizes-fit : {a : Automaton} {n m : ℕ} → Valid a → Dimensioned n m → Fitting (sizesOf a n m)
+pub sizes-fit : {a : Automaton} {τ : Target} → Valid a → Dimensioned τ → Fitting (sizesOf a τ)
 sizes-fit {a} v d = record {
   n-some = d .n-some;
   n-le = d .n-le;
@@ -51,6 +52,9 @@ module _ {z : Sizes} (f : Fitting z) where
   pub marks-le : z .marks ≤ 5120
   marks-le = omega (arith, f .marks-is, steps-le, mul-le-mul (square-le (f .n-le) (f .letters-le)) (f .m-le))
 
+  pub table-variables-le : tableVariablesFor (counted z) (named (targetOf z)) ≤ 5120
+  table-variables-le = omega (arith, f .marks-is, f .steps-is, marks-le)
+
   -- V
   pub states-le : z .candidate .states * z .reference .states ≤ 128
   states-le = mul-le-mul (f .n-le) (f .r-le)
@@ -73,8 +77,8 @@ module _ {z : Sizes} (f : Fitting z) where
 
 -- ---- the file of a reference
 
-pub file-numbers : (a : Automaton) (n m : ℕ) → numberOf (sizesOf a n m) ≡ base-number (view a) n m
-file-numbers a n m = refl
+pub file-numbers : (a : Automaton) (τ : Target) → numberOf (sizesOf a τ) ≡ numbers a τ
+file-numbers a τ = refl
 
-pub file-variables : (a : Automaton) (n m : ℕ) → lastVariable (sizesOf a n m) ≡ base-variables (view a) n m
-file-variables a n m = refl
+pub file-variables : (a : Automaton) (τ : Target) → lastVariable (sizesOf a τ) ≡ last a τ
+file-variables a τ = refl

@@ -3,9 +3,11 @@ use mathlib.Core.Path.{_≡_}
 use mathlib.Core.Bool.{true, false}
 use Prim.Native.Nat.{ℕ, _≤_, _<_}
 use Rattle.meaning.specs.Automata.{Aut}
-use Rattle.encoding.specs.Variables.{Var, Present, base, base-number, base-variables}
+use Rattle.encoding.specs.Variables.{Var, Present}
+use Rattle.encoding.specs.Named.{taskFor, numberFor, variablesFor}
 use Rattle.clause_sizes.specs.declared.Sizes.{Sizes}
-use Rattle.clause_sizes.specs.Sizes.{Fitting}
+use Rattle.clause_sizes.specs.Sizes.{Fitting, targetOf}
+use Rattle.clause_sizes.specs.Targets.{named}
 
 -- an automaton with the reference's counts
 abbrev pub counted : Sizes → Aut
@@ -21,14 +23,14 @@ counted z = record {
 
 -- there is such a variable
 abbrev pub InFile : Sizes → Var → Type 0
-InFile z x = Present (base (counted z) (z .candidate .states) (z .candidate .sets)) x
+InFile z x = Present (taskFor (counted z) (named (targetOf z))) x
 
 abbrev pub numberOf : Sizes → Var → ℕ
-numberOf z = base-number (counted z) (z .candidate .states) (z .candidate .sets)
+numberOf z = numberFor (counted z) (named (targetOf z))
 
 -- V
 abbrev pub lastVariable : Sizes → ℕ
-lastVariable z = base-variables (counted z) (z .candidate .states) (z .candidate .sets)
+lastVariable z = variablesFor (counted z) (named (targetOf z))
 
 -- k is the number of x, from 1 to the largest that any file has
 pub record Numbered (z : Sizes) (x : Var) (k : ℕ) : Type 0 where

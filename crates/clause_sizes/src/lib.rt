@@ -3,11 +3,18 @@ ghost use mathlib.Core.Path.{_≡_};
 ghost use mathlib.Core.Logic.{_↔_};
 ghost use mathlib.Core.Bool.{true};
 ghost use Prim.Native.Nat.{_≤_};
-ghost use Rattle.clause_sizes.specs.Sizes.{Counting, Dimensioned, Fitting, Sizing, measured};
+ghost use Rattle.clause_sizes.specs.Targets.{Dimensioned};
+ghost use Rattle.clause_sizes.specs.Sizes.{Counting, Fitting, Sizing, measured};
 ghost use Rattle.clause_sizes.specs.Numbers.{LastIfAny};
 use automaton::Automaton;
 use bits::powers::power_of_two;
 use refusals::Refusal;
+
+// What the caller names for a file, beside the reference: the candidate's states n and its acceptance sets m.
+pub struct Target {
+    pub states: usize,
+    pub sets: usize,
+}
 
 // Of the candidate or of the reference: its states, its acceptance sets, and how many sets of marks there are.
 pub struct Counts {
@@ -30,19 +37,18 @@ pub enum Sized {
     Refused(Refusal),
 }
 
-// The sizes of the file for a reference, n and m, where there is one.
-pub fn measure(reference: Automaton, n: usize, m: usize) -> Sized
-    ensures { λ r. ⌜ Sizing reference n m r ⌝ }
+// The sizes of the file for a reference and a target, where there is one.
+pub fn measure(reference: Automaton, target: Target) -> Sized
+    ensures { λ r. ⌜ Sizing reference target r ⌝ }
 {
     if !reference.valid() {
         return Sized::Refused(Refusal::Outside);
     }
-    if !dimensioned(n, m) {
-        return Sized::Refused(Refusal::Dimensions(n, m));
+    if !dimensioned(target) {
+        return Sized::Refused(Refusal::Dimensions(target.states, target.sets));
     }
     let z = measured(
-        n,
-        m,
+        target,
         reference.states,
         reference.sets,
         reference.propositions,
@@ -50,22 +56,24 @@ pub fn measure(reference: Automaton, n: usize, m: usize) -> Sized
     Sized::Of(z)
 }
 
-fn dimensioned(n: usize, m: usize) -> bool
-    ensures { λ r. ⌜ (r ≡ true) ↔ Dimensioned n m ⌝ }
+fn dimensioned(target: Target) -> bool
+    ensures { λ r. ⌜ (r ≡ true) ↔ Dimensioned target ⌝ }
 {
-    if n < 1 {
+    if target.states < 1 {
         return false;
     }
-    if n > Automaton::CANDIDATE_STATES {
+    if target.states > Automaton::CANDIDATE_STATES {
         return false;
     }
-    m <= Automaton::SETS
+    target.sets <= Automaton::SETS
 }
 
-fn measured(n: usize, m: usize, states: usize, sets: usize, propositions: usize) -> Sizes
-    requires { ⌜ (n ≤ 8) × (m ≤ 4) × (sets ≤ 4) × (propositions ≤ 4) ⌝ }
-    ensures { λ r. ⌜ r ≡ measured n m states sets propositions ⌝ }
+fn measured(target: Target, states: usize, sets: usize, propositions: usize) -> Sizes
+    requires { ⌜ Dimensioned target × (sets ≤ 4) × (propositions ≤ 4) ⌝ }
+    ensures { λ r. ⌜ r ≡ measured target states sets propositions ⌝ }
 {
+    let n = target.states;
+    let m = target.sets;
     let letters = power_of_two(propositions);
     let steps = n * n * letters;
     Sizes {

@@ -8,8 +8,8 @@ use lib.IntN.{ℤ}
 use lib.ListN.{length, take}
 use Rattle.automaton.specs.declared.Automaton.{Automaton}
 use Rattle.refusals.specs.declared.Refusal.{Refusal}
-use Rattle.automaton.specs.View.{view}
-use Rattle.encoding.specs.Clauses.{base-file}
+use Rattle.clause_sizes.specs.declared.Target.{Target}
+use Rattle.clause_sizes.specs.Targets.{file}
 use Rattle.clause_indices.specs.Indices.{clauseRoom}
 use Rattle.clause_step.specs.declared.Answer.{Answer}
 use Rattle.clause_step.specs.declared.Answer.the-variants.{Written, Ended, Refused}
@@ -39,8 +39,8 @@ RefusedShort {A} needed cs =
 abbrev pub Call : Type 0
 Call = CallOn ℤ
 
-abbrev pub Calls : (a : Automaton) (n m x : ℕ) → List Call → Type 0
-Calls a n m = CallsOn (Stepped a n m)
+abbrev pub Calls : (a : Automaton) (τ : Target) (x : ℕ) → List Call → Type 0
+Calls a τ = CallsOn (Stepped a τ)
 
 -- what a call that is not refused says: the literals at the start of the buffer, or none where the list has ended
 abbrev pub said : Answer → List ℤ → List (Option (List ℤ))
@@ -59,6 +59,6 @@ in-order [] (suc k) = none ∷ in-order [] k
 in-order (c ∷ cs) (suc k) = some c ∷ in-order cs k
 
 -- what the clause step does over a whole list of calls
-pub record HandsOut (a : Automaton) (n m : ℕ) (cs : List Call) : Type 0 where
-  pub answers : all-said cs ≡ in-order (base-file (view a) n m) (length (all-said cs))
+pub record HandsOut (a : Automaton) (τ : Target) (cs : List Call) : Type 0 where
+  pub answers : all-said cs ≡ in-order (file a τ) (length (all-said cs))
   pub refused : RefusedShort clauseRoom cs

@@ -6,21 +6,23 @@ use native.Mathlib.Nat.{mul-le-mul}
 use native.Mathlib.Omega.{arith}
 use Rattle.automaton.specs.declared.Automaton.{Automaton}
 use Rattle.automaton.specs.Value.{Valid}
-use Rattle.automaton.specs.View.{view}
 use Rattle.bits.specs.Powers.{power-le}
-use Rattle.encoding.specs.Variables.{base, base-number}
 use Rattle.encoding.specs.Positions.{positions}
-use Rattle.clause_sizes.specs.Sizes.{Dimensioned}
+use Rattle.encoding.specs.Named.{taskFor}
+use Rattle.clause_sizes.specs.declared.Target.{Target}
+use Rattle.clause_sizes.specs.Targets.{Dimensioned, task, numbers}
 use Rattle.clause_list.specs.Following.{position-of, next-le}
 use Rattle.clause_step.specs.Step.{last-position, found-from}
 
 -- the largest sizes have the largest position
-pub largest-positions : positions (base (record { states = 16; letters = 16; sets = 4; start = 0; step = λ q l. 0; marks = λ q l i. false; accept = λ S. true }) 8 4) (λ x. 0)
+pub largest-positions : positions (taskFor (record { states = 16; letters = 16; sets = 4; start = 0; step = λ q l. 0; marks = λ q l i. false; accept = λ S. true }) (record { n = 8; m = 4 })) (λ x. 0)
     ≡ last-position
 largest-positions = refl
 
-pub positions-le : {a : Automaton} {n m : ℕ} → Valid a → Dimensioned n m → positions (base (view a) n m) (base-number (view a) n m) ≤ last-position
-positions-le {a} {n} {m} v d =
+pub positions-le : {a : Automaton} {τ : Target} → Valid a → Dimensioned τ → positions (task a τ) (numbers a τ) ≤ last-position
+positions-le {a} {τ} v d =
+    let n = τ .states in
+    let m = τ .sets in
     let L : 2 ^ a .propositions ≤ 16 = power-le (v .propositions-le) in
     let M : 2 ^ m ≤ 16 = power-le (d .m-le) in
     let S : 2 ^ a .sets ≤ 16 = power-le (v .sets-le) in
@@ -32,6 +34,6 @@ positions-le {a} {n} {m} v d =
     let first : n * 2 ^ a .propositions ≤ 128 = mul-le-mul (d .n-le) L in
     omega arith
 
-pub stays-in-range : {a : Automaton} {n m : ℕ} → Valid a → Dimensioned n m → (x : ℕ) → x ≤ last-position
-    → position-of (base (view a) n m) (base-number (view a) n m) (found-from a n m x) ≤ last-position
-stays-in-range {a} {n} {m} v d x h = next-le (base (view a) n m) (base-number (view a) n m) last-position x (positions-le v d) h
+pub stays-in-range : {a : Automaton} {τ : Target} → Valid a → Dimensioned τ → (x : ℕ) → x ≤ last-position
+    → position-of (task a τ) (numbers a τ) (found-from a τ x) ≤ last-position
+stays-in-range {a} {τ} v d x h = next-le (task a τ) (numbers a τ) last-position x (positions-le v d) h

@@ -10,7 +10,8 @@ use Rattle.automaton.specs.declared.Automaton.{Automaton}
 use Rattle.refusals.specs.declared.Code.{Code}
 use Rattle.refusals.specs.declared.Refusal.{Refusal}
 use Rattle.automaton.specs.Value.{Valid}
-use Rattle.clause_sizes.specs.Sizes.{Dimensioned}
+use Rattle.clause_sizes.specs.declared.Target.{Target}
+use Rattle.clause_sizes.specs.Targets.{Dimensioned}
 use Rattle.clause_step.specs.declared.Answer.{Answer}
 use Rattle.clause_step.specs.declared.Answer.the-variants.{Written, Ended, Refused}
 use Rattle.clause_step.specs.declared.Handed.{Handed}
@@ -18,8 +19,8 @@ use Rattle.clause_step.specs.Step.{TurnedDown, short, outside, dimension
 use Rattle.clause_step.specs.Calls.{CallOn, CallsOn, RefusedShort}
 
 -- one call at a position in its range
-pub turned-down-short : {a : Automaton} {n m x needed given : ℕ} {f : Refusal} {c : Option Code} → Valid a → Dimensioned n m → x ≤ last-position
-    → TurnedDown needed given a n m x f c → given < needed
+pub turned-down-short : {a : Automaton} {τ : Target} {x needed given : ℕ} {f : Refusal} {c : Option Code} → Valid a → Dimensioned τ → x ≤ last-position
+    → TurnedDown needed given a τ x f c → given < needed
 turned-down-short v i h (short l) = l
 turned-down-short v i h (outside r l) = absurd (l (v, h))
 turned-down-short v i h (dimensions r u l k) = absurd (k i)

@@ -1,27 +1,28 @@
--- What the functions that are handed a reference, n and m say after `measure`: the refusal, or the clauses of the reference's file.
+-- What the functions that are handed a reference and a target say after `measure`: the refusal, or the clauses of the reference's file.
 use mathlib.Core.Path.{_≡_, ap₂}
 use mathlib.Core.Option.{Option}
 use Prim.Native.Nat.{ℕ, _≤_}
 use Rattle.automaton.specs.declared.Automaton.{Automaton}
 use Rattle.refusals.specs.declared.Code.{Code}
 use Rattle.refusals.specs.declared.Refusal.{Refusal}
+use Rattle.clause_sizes.specs.declared.Target.{Target}
 use Rattle.clause_sizes.specs.declared.Sizes.{Sizes}
 use Rattle.clause_sizes.specs.Numbers.{numberOf}
 use Rattle.clause_sizes.specs.Sizes as sizes
-use Rattle.clause_sizes.specs.Sizes.{Refuses}
+use Rattle.clause_sizes.specs.Sizes.{Refuses, targetOf}
 use Rattle.clause_sizes.specs.Measured.{Measured}
 use Rattle.clause_list.specs.Tables.{taskOf}
 use Rattle.clause_list.specs.Measured.{measured-task, measured-number}
 use Rattle.clause_list.specs.Next.{next-clause}
 use Rattle.clause_step.specs.Step.{TurnedDown, outside, dimensions, found-from, last-position}
 
--- a refusal of the reference, n or m is one of the call
-pub refused-sizes : {a : Automaton} {n m x needed given : ℕ} {f : Refusal} {c : Option Code} → needed ≤ given → x ≤ last-position → Refuses a n m f c
-    → TurnedDown needed given a n m x f c
+-- a refusal of the reference or the target is one of the call
+pub refused-sizes : {a : Automaton} {τ : Target} {x needed given : ℕ} {f : Refusal} {c : Option Code} → needed ≤ given → x ≤ last-position → Refuses a τ f c
+    → TurnedDown needed given a τ x f c
 refused-sizes h l (sizes.outside v) = outside h (λ (w, i). v w)
 refused-sizes h l (sizes.dimensions v i) = dimensions h v l i
 
 -- the clauses that are found are those of the reference's file
 pub measured-found : {a : Automaton} {z : Sizes} → Measured a z → (x : ℕ)
-    → next-clause (taskOf z (a .start) (a .destinations) (a .marks)) (numberOf z) x ≡ found-from a (z .candidate .states) (z .candidate .sets) x
+    → next-clause (taskOf z (a .start) (a .destinations) (a .marks)) (numberOf z) x ≡ found-from a (targetOf z) x
 measured-found w x = ap₂ (λ T num. next-clause T num x) (measured-task w) (measured-number w)

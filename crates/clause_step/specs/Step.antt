@@ -1,4 +1,4 @@
--- DEFINITIONS: what a call of the clause step answers and leaves in the buffer, for the reference a, n and m at position x, on all input.
+-- DEFINITIONS: what a call of the clause step answers and leaves in the buffer, for the reference a and the target τ at position x, on all input.
 use mathlib.Core.Path.{_≡_}
 use mathlib.Core.List.{List}
 use mathlib.Core.Option.{Option, none, some}
@@ -11,10 +11,9 @@ use Rattle.refusals.specs.declared.Refusal.{Refusal}
 use Rattle.refusals.specs.declared.Refusal.the-variants.{Outside, Dimensions, Short}
 use Rattle.refusals.specs.Refused.{row, codeOf}
 use Rattle.automaton.specs.Value.{Valid}
-use Rattle.automaton.specs.View.{view}
-use Rattle.encoding.specs.Variables.{base, base-number}
 use Rattle.decimal.specs.Wrote.{Wrote}
-use Rattle.clause_sizes.specs.Sizes.{Dimensioned}
+use Rattle.clause_sizes.specs.declared.Target.{Target}
+use Rattle.clause_sizes.specs.Targets.{Dimensioned, task, numbers}
 use Rattle.clause_list.specs.Next.{Found, handed, ended, next-clause}
 use Rattle.clause_indices.specs.Indices.{clauseRoom}
 use Rattle.clause_step.specs.declared.Answer.{Answer}
@@ -38,16 +37,16 @@ abbrev pub lineRoom : ℕ
 lineRoom = 80
 
 -- "Order: 13 .., 4 for handed values, 8": a buffer has `given` places of the `needed`
-pub data TurnedDown (needed given : ℕ) (a : Automaton) (n m x : ℕ) : Refusal → Option Code → Type 0 where
-  short : given < needed → TurnedDown needed given a n m x (Short needed given) (some (row 13 needed given))
-  outside : needed ≤ given → ¬ (Valid a × (x ≤ last-position)) → TurnedDown needed given a n m x Outside (some (row 4 0 0))
-  dimensions : needed ≤ given → Valid a → x ≤ last-position → ¬ Dimensioned n m → TurnedDown needed given a n m x (Dimensions n m) (some (row 8 n m))
+pub data TurnedDown (needed given : ℕ) (a : Automaton) (τ : Target) (x : ℕ) : Refusal → Option Code → Type 0 where
+  short : given < needed → TurnedDown needed given a τ x (Short needed given) (some (row 13 needed given))
+  outside : needed ≤ given → ¬ (Valid a × (x ≤ last-position)) → TurnedDown needed given a τ x Outside (some (row 4 0 0))
+  dimensions : needed ≤ given → Valid a → x ≤ last-position → ¬ Dimensioned τ → TurnedDown needed given a τ x (Dimensions (τ .states) (τ .sets)) (some (row 8 (τ .states) (τ .sets)))
 
-pub record Accepted (needed given : ℕ) (a : Automaton) (n m x : ℕ) : Type 0 where
+pub record Accepted (needed given : ℕ) (a : Automaton) (τ : Target) (x : ℕ) : Type 0 where
   pub room : needed ≤ given
   pub valid : Valid a
   pub in-range : x ≤ last-position
-  pub dimensioned : Dimensioned n m
+  pub dimensioned : Dimensioned τ
 
 -- ---- the answers
 
@@ -58,21 +57,21 @@ returned Ended = none
 returned (Refused f) = some (codeOf f)
 
 -- the first clause of the file from position x on
-abbrev pub found-from : (a : Automaton) (n m x : ℕ) → Found
-found-from a n m = next-clause (base (view a) n m) (base-number (view a) n m)
+abbrev pub found-from : (a : Automaton) (τ : Target) (x : ℕ) → Found
+found-from a τ = next-clause (task a τ) (numbers a τ)
 
 -- What each answer says, y being the position that is handed back: "clause by clause; "ended" follows clause C"; "A refused step keeps its
 -- position". Only the clause's literals are written.
-module _ (a : Automaton) (n m x : ℕ) (d e : List ℤ) where
+module _ (a : Automaton) (τ : Target) (x : ℕ) (d e : List ℤ) where
   abbrev pub StepFound : Answer → (y : ℕ) → Type 0
-  StepFound (Written k) y = (c : List ℤ) × (found-from a n m x ≡ handed c y) × Wrote d 0 c e k
-  StepFound Ended y = (found-from a n m x ≡ ended y) × (e ≡ d)
+  StepFound (Written k) y = (c : List ℤ) × (found-from a τ x ≡ handed c y) × Wrote d 0 c e k
+  StepFound Ended y = (found-from a τ x ≡ ended y) × (e ≡ d)
   StepFound (Refused f) y = ⊥
 
   abbrev pub StepAnswers : Answer → (y : ℕ) → Type 0
-  StepAnswers (Written k) y = Accepted clauseRoom (length d) a n m x × StepFound (Written k) y
-  StepAnswers Ended y = Accepted clauseRoom (length d) a n m x × StepFound Ended y
-  StepAnswers (Refused f) y = TurnedDown clauseRoom (length d) a n m x f (returned (Refused f)) × (y ≡ x) × (e ≡ d)
+  StepAnswers (Written k) y = Accepted clauseRoom (length d) a τ x × StepFound (Written k) y
+  StepAnswers Ended y = Accepted clauseRoom (length d) a τ x × StepFound Ended y
+  StepAnswers (Refused f) y = TurnedDown clauseRoom (length d) a τ x f (returned (Refused f)) × (y ≡ x) × (e ≡ d)
 
   abbrev pub Stepped : Handed → Type 0
   Stepped r = StepAnswers (r .answer) (r .position)

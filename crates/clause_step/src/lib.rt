@@ -5,12 +5,14 @@ use clause_indices::extent::extent_of;
 use clause_list::next::next_clause;
 use clause_sizes::Sized;
 use clause_sizes::Sizes;
+use clause_sizes::Target;
 use clause_sizes::measure;
 use refusals::Refusal;
 ghost use mathlib.Core.Path.{_≡_};
 ghost use Prim.Native.Nat.{_≤_};
 ghost use lib.ListN.{length};
 ghost use Rattle.clause_sizes.specs.Measured.{Measured};
+ghost use Rattle.clause_sizes.specs.Sizes.{targetOf};
 ghost use Rattle.clause_indices.specs.Indices.{clauseRoom};
 ghost use Rattle.clause_step.specs.Step.{«fresh-position», Stepped, StepFound};
 
@@ -41,9 +43,9 @@ pub fn fresh() -> u64
     0
 }
 
-// Writes the next clause of the file for the reference, n and m.
-pub fn step(reference: Automaton, n: usize, m: usize, position: u64, clause: &mut [i32]) -> Handed
-    ensures { λ r. ⌜ Stepped reference n m position (now (clause .entry)) (now (clause .exit)) r ⌝ }
+// Writes the next clause of the file for the reference and the target.
+pub fn step(reference: Automaton, target: Target, position: u64, clause: &mut [i32]) -> Handed
+    ensures { λ r. ⌜ Stepped reference target position (now (clause .entry)) (now (clause .exit)) r ⌝ }
 {
     // "A refused step keeps its position."
     let kept = position;
@@ -60,7 +62,7 @@ pub fn step(reference: Automaton, n: usize, m: usize, position: u64, clause: &mu
             position: kept,
         };
     }
-    let sized = measure(reference, n, m);
+    let sized = measure(reference, target);
     match sized {
         Sized::Of(z) => find(reference, z, position, clause),
         Sized::Refused(refusal) => Handed {
@@ -74,7 +76,7 @@ pub fn step(reference: Automaton, n: usize, m: usize, position: u64, clause: &mu
 fn find(reference: Automaton, z: Sizes, position: u64, clause: &mut [i32]) -> Handed
     requires { ⌜ Measured reference z ⌝ }
     requires { ⌜ clauseRoom ≤ length (now clause) ⌝ }
-    ensures { λ r. ⌜ StepFound reference (z .candidate .states) (z .candidate .sets) position (now (clause .entry)) (now (clause .exit)) (r .answer) (r .position) ⌝ }
+    ensures { λ r. ⌜ StepFound reference (targetOf z) position (now (clause .entry)) (now (clause .exit)) (r .answer) (r .position) ⌝ }
 {
     let destinations = reference.destinations;
     let marks = reference.marks;

@@ -6,6 +6,7 @@ use clause_indices::extent::extent_of;
 use clause_line::LINE;
 use clause_sizes::Sized;
 use clause_sizes::Sizes;
+use clause_sizes::Target;
 use clause_sizes::measure;
 use clause_step::Answer;
 use clause_step::Handed;
@@ -14,6 +15,7 @@ use refusals::Refusal;
 ghost use Prim.Native.Nat.{_≤_};
 ghost use lib.ListN.{length};
 ghost use Rattle.clause_sizes.specs.Measured.{Measured};
+ghost use Rattle.clause_sizes.specs.Sizes.{targetOf};
 ghost use Rattle.clause_text.specs.Answers.{BatchStepped, BatchFound};
 
 mod batch;
@@ -21,8 +23,8 @@ mod block;
 mod keeping;
 
 // Writes the lines of the next clauses, as many as fit whole.
-pub fn lines(reference: Automaton, n: usize, m: usize, position: u64, text: &mut [u8]) -> Handed
-    ensures { λ r. ⌜ BatchStepped reference n m position (now (text .entry)) (now (text .exit)) r ⌝ }
+pub fn lines(reference: Automaton, target: Target, position: u64, text: &mut [u8]) -> Handed
+    ensures { λ r. ⌜ BatchStepped reference target position (now (text .entry)) (now (text .exit)) r ⌝ }
 {
     let given = text.len();
     if given < LINE {
@@ -37,7 +39,7 @@ pub fn lines(reference: Automaton, n: usize, m: usize, position: u64, text: &mut
             position,
         };
     }
-    let sized = measure(reference, n, m);
+    let sized = measure(reference, target);
     match sized {
         Sized::Of(z) => many_lines(reference, z, position, text),
         Sized::Refused(refusal) => Handed {
@@ -51,7 +53,7 @@ pub fn lines(reference: Automaton, n: usize, m: usize, position: u64, text: &mut
 fn many_lines(reference: Automaton, z: Sizes, position: u64, text: &mut [u8]) -> Handed
     requires { ⌜ Measured reference z ⌝ }
     requires { ⌜ 80 ≤ length (now text) ⌝ }
-    ensures { λ r. ⌜ BatchFound reference (z .candidate .states) (z .candidate .sets) position (now (text .entry)) (now (text .exit)) (r .answer) (r .position) ⌝ }
+    ensures { λ r. ⌜ BatchFound reference (targetOf z) position (now (text .entry)) (now (text .exit)) (r .answer) (r .position) ⌝ }
 {
     let destinations = reference.destinations;
     let marks = reference.marks;

@@ -11,8 +11,9 @@ use Rattle.refusals.specs.declared.Refusal.{Refusal}
 use Rattle.refusals.specs.Refused.{codeOf}
 use Rattle.automaton.specs.Value.{Valid}
 use Rattle.compare.specs.Compared.{prefixRoom, loopRoom}
-use Rattle.clause_sizes.specs.Sizes.{Dimensioned}
 use Rattle.encoding.specs.Clauses.{Assignment}
+use Rattle.clause_sizes.specs.declared.Target.{Target}
+use Rattle.clause_sizes.specs.Targets.{Dimensioned}
 use Rattle.solver_text.specs.declared.Reader.{Reader}
 use Rattle.solver_text.specs.declared.Answer.{Answer}
 use Rattle.solver_text.specs.declared.Answer.the-variants.{Accepted, Refused}
@@ -39,13 +40,13 @@ first None = 0
 first Unknown = 0
 first (TurnedDown x) = codeOf x .first
 
-pub record ByText (a : Automaton) (n m : ℕ) (r : Reader) (f : Refusal) : Type 0 where
+pub record ByText (a : Automaton) (τ : Target) (r : Reader) (f : Refusal) : Type 0 where
   pub valid : Valid a
   pub in-range : InRange r
-  pub sizes : Dimensioned n m
-  pub offset : codeOf f .first ≡ whole a n m r .reader .scan .at
+  pub sizes : Dimensioned τ
+  pub offset : codeOf f .first ≡ whole a τ r .reader .scan .at
 
-module _ {p p′ l l′ : List ℕ} {x : Decoded} {a : Automaton} {n m : ℕ} {r : Reader} (d : Decodes p p′ l l′ x a n m r)
+module _ {p p′ l l′ : List ℕ} {x : Decoded} {a : Automaton} {τ : Target} {r : Reader} (d : Decodes p p′ l l′ x a τ r)
     (f : Refusal) (is : x .answer ≡ TurnedDown f) (low : 9 ≤ codeOf f .number) (high : codeOf f .number ≤ 10) where
   -- no answer with another number
   other : (y : Decoded) → x ≡ y → (number (y .answer) < 9) ⊎ (10 < number (y .answer)) → ⊥
@@ -55,21 +56,21 @@ module _ {p p′ l l′ : List ℕ} {x : Decoded} {a : Automaton} {n m : ℕ} {r
   same : (g : Refusal) (y : Decoded) → x ≡ y → y .answer ≡ TurnedDown g → codeOf f .first ≡ codeOf g .first
   same g y e h = ap first (sym is ∙ ap (λ x. x .answer) e ∙ h)
 
-  no-table : (ν : Assignment) → ByAssignment p p′ l l′ x a n m ν → ⊥
-  no-table ν b = go (all-or-lowest a n m ν)
+  no-table : (ν : Assignment) → ByAssignment p p′ l l′ x a τ ν → ⊥
+  no-table ν b = go (all-or-lowest a τ ν)
     where
-      go : AllStep a n m ν ⊎ ((q i : ℕ) × LowestWithout a n m ν q i) → ⊥
+      go : AllStep a τ ν ⊎ ((q i : ℕ) × LowestWithout a τ ν q i) → ⊥
       go (inl t) = other _ (b .table t .differ (λ s. other _ (b .table t .same s .0) (inl (omega arith))) .says) (inr (omega arith))
       go (inr (q, i, w)) = other _ (b .no-step q i w .0) (inr (omega arith))
 
-  module _ (never : ¬ ByText a n m r f) where
-    by-verdict : Admitted p p′ l l′ x a n m r → (v : Verdict) → whole a n m r .reader .scan .verdict ≡ v → ByVerdict p p′ l l′ x a n m (whole a n m r .reader) → ⊥
+  module _ (never : ¬ ByText a τ r f) where
+    by-verdict : Admitted p p′ l l′ x a τ r → (v : Verdict) → whole a τ r .reader .scan .verdict ≡ v → ByVerdict p p′ l l′ x a τ (whole a τ r .reader) → ⊥
     by-verdict t Unstated e b = never (record { valid = t .valid; in-range = t .in-range; sizes = t .sizes; offset = same _ _ (b .unstated e .0) refl })
     by-verdict t Satisfiable e b = no-table _ (b .satisfiable e)
     by-verdict t Unsatisfiable e b = other _ (b .none e .0) (inl (omega arith))
     by-verdict t NotKnown e b = other _ (b .unknown e .0) (inl (omega arith))
 
-    by-reply : Admitted p p′ l l′ x a n m r → (w : Answer) → whole a n m r .answer ≡ w → ⊥
+    by-reply : Admitted p p′ l l′ x a τ r → (w : Answer) → whole a τ r .answer ≡ w → ⊥
     by-reply t Accepted e = by-verdict t _ refl (d .accepted t e)
     by-reply t (Refused g) e = never (record {
       valid = t .valid;
@@ -93,5 +94,5 @@ module _ {p p′ l l′ : List ℕ} {x : Decoded} {a : Automaton} {n m : ℕ} {r
     by-room (yes h) (no g) = other _ (d .short-loop h (omega arith) .0) (inr (omega arith))
     by-room (yes h) (yes g) = by-call h g
 
-  pub by-text : ¬ ¬ ByText a n m r f
+  pub by-text : ¬ ¬ ByText a τ r f
   by-text never = by-room never (decLe prefixRoom (length p)) (decLe loopRoom (length l))

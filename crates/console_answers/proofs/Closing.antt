@@ -9,6 +9,8 @@ use lib.ListN.{length}
 use Rattle.automaton.specs.declared.Automaton.{Automaton}
 use Rattle.refusals.specs.declared.Refusal.{Refusal}
 use Rattle.refusals.specs.declared.Refusal.the-variants.{SolverForm, Literal}
+use Rattle.clause_sizes.specs.declared.Target.{Target}
+use Rattle.clause_sizes.specs.Targets.{last, kept}
 use Rattle.compare.specs.Compared.{prefixRoom, loopRoom}
 use Rattle.solver_text.specs.declared.Reader.{Reader}
 use Rattle.solver_text.specs.declared.Answer.the-variants.{Refused}
@@ -16,7 +18,6 @@ use Rattle.solver_scan.specs.declared.Place.{Place as Spot}
 use Rattle.solver_scan.specs.declared.Place.the-variants.{Start, Comment, AfterS, BeforeWord, Word, AfterWord, AfterToken, BeforeToken, AfterMinus, Digits, Ended, BadForm, BadLiteral}
 use Rattle.solver_scan.specs.Scanning.{refusedAt}
 use Rattle.solver_text.specs.Machine.{answerAt, told}
-use Rattle.solver_text.specs.Calls.{last, kept}
 use Rattle.decode.specs.declared.Answer.{Answer as Decision}
 use Rattle.decode.specs.declared.Answer.the-variants.{Table, None, Unknown, Refused as TurnedDown}
 use Rattle.decode.specs.declared.Decoded.{Decoded}
@@ -50,7 +51,7 @@ refusal-at Ended at e = absurd (false≢true e)
 refusal-at BadForm at e = (SolverForm at, refl)
 refusal-at BadLiteral at e = (Literal at, refl)
 
-module _ {p p′ l l′ : List ℕ} {x : Decoded} {a : Automaton} {n m : ℕ} {r : Reader} (d : Decodes p p′ l l′ x a n m r) (c : Closed a n m r) where
+module _ {p p′ l l′ : List ℕ} {x : Decoded} {a : Automaton} {τ : Target} {r : Reader} (d : Decodes p p′ l l′ x a τ r) (c : Closed a τ r) where
   module _ (never : (f : Refusal) → x .answer ≡ TurnedDown f → ⊥) where
     by-call : prefixRoom ≤ length p → loopRoom ≤ length l → ⊥
     by-call h g =
@@ -59,7 +60,7 @@ module _ {p p′ l l′ : List ℕ} {x : Decoded} {a : Automaton} {n m : ℕ} {r
         never _ (ap (λ y. y .answer) (d .dimensions h g v i (λ z.
         let (f, e) = refusal-at (r .scan .place) (r .scan .at) (c v z) in
         never f (ap (λ y. y .answer) (d .text (record { prefix-room = h; loop-room = g; valid = v; in-range = i; sizes = z }) f
-        (ap (λ x. told x .answer) (refused-end (last a n m) (kept a n m) r (c v z)) ∙ e) .0))) .0))) .0))) .0))
+        (ap (λ x. told x .answer) (refused-end (last a τ) (kept a τ) r (c v z)) ∙ e) .0))) .0))) .0))) .0))
 
     by-room : Dec (prefixRoom ≤ length p) → Dec (loopRoom ≤ length l) → ⊥
     by-room (no h) g = never _ (ap (λ y. y .answer) (d .short-prefix (omega arith) .0))

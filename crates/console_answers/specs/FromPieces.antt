@@ -9,6 +9,7 @@ use lib.ListN.{length}
 use Rattle.automaton.specs.declared.Automaton.{Automaton}
 use Rattle.refusals.specs.declared.Refusal.{Refusal}
 use Rattle.refusals.specs.declared.Refusal.the-variants.{SolverForm, Literal}
+use Rattle.clause_sizes.specs.declared.Target.{Target}
 use Rattle.solver_text.specs.declared.Reader.{Reader}
 use Rattle.solver_text.specs.Machine.{fresh}
 use Rattle.solver_text.specs.Calls.{Reads, joined}
@@ -31,16 +32,16 @@ pub record Refuses (told : Told) : Type 0 where
   pub refusal : Refusal
   pub is : told .decoded .answer ≡ Refused refusal
 
--- The two buffers before and after, and what was told, for every reference, n and m. A call that is refused with 4, 8, 9 or 10 is a call like any other, with the
+-- The two buffers before and after, and what was told, for every reference and target. A call that is refused with 4, 8, 9 or 10 is a call like any other, with the
 -- reader that it leaves; an empty piece comes first, so that 4 and 8 are said before the text is waited for. `Demand3.delivers` takes `reads` (as `Held.read`) and
 -- `decodes` as they stand here: where the pieces make up a text that states a satisfying assignment, what is told is the table that it decodes to.
-pub record FromPieces (prefix prefix-after loop loop-after : List ℕ) (told : Told) (reference : Automaton) (n m : ℕ) : Type 0 where
+pub record FromPieces (prefix prefix-after loop loop-after : List ℕ) (told : Told) (reference : Automaton) (τ : Target) : Type 0 where
   pub pieces : List (List ℕ)
   pub answers : List ℤ
   pub brought : Brings (Refuses told) answers pieces (told .whole)
   pub reader : Reader
-  pub reads : Reads reference n m fresh ([] ∷ pieces) reader
-  pub decodes : Decodes prefix prefix-after loop loop-after (told .decoded) reference n m reader
+  pub reads : Reads reference τ fresh ([] ∷ pieces) reader
+  pub decodes : Decodes prefix prefix-after loop loop-after (told .decoded) reference τ reader
   -- with 9 and 10, the place of the offset in the text that the pieces make up
   pub form-place : (offset : ℕ) → told .decoded .answer ≡ Refused (SolverForm offset) → told .place ≡ placeOf (joined pieces) offset
   pub literal-place : (offset : ℕ) → told .decoded .answer ≡ Refused (Literal offset) → told .place ≡ placeOf (joined pieces) offset

@@ -8,14 +8,15 @@ use lib.ListN.{length}
 use Rattle.automaton.specs.declared.Automaton.{Automaton}
 use Rattle.refusals.specs.Refused.{codeOf}
 use Rattle.automaton.specs.Value.{Valid}
-use Rattle.clause_sizes.specs.Sizes.{Dimensioned}
+use Rattle.clause_sizes.specs.declared.Target.{Target}
+use Rattle.clause_sizes.specs.Targets.{Dimensioned, kept, last}
 use Rattle.solver_text.specs.declared.Reader.{Reader}
 use Rattle.solver_text.specs.declared.Reply.{Reply}
 use Rattle.solver_text.specs.declared.Answer.{Answer}
 use Rattle.solver_text.specs.declared.Answer.the-variants.{Accepted, Refused}
 use Rattle.solver_scan.specs.Scanning.{refusedAt}
 use Rattle.solver_text.specs.Machine.{fresh, told, run}
-use Rattle.solver_text.specs.Calls.{Called, Reads, joined, last as last-variable, kept}
+use Rattle.solver_text.specs.Calls.{Called, Reads, joined}
 use Rattle.decode.specs.declared.Answer.{Answer as Decision}
 use Rattle.decode.specs.declared.Answer.the-variants.{Table, None, Unknown, Refused as TurnedDown}
 use Rattle.console_places.specs.declared.Place.{Place}
@@ -28,11 +29,11 @@ abbrev pub heardOf : Place → List ℕ → Answer → Reader → Heard
 heardOf p u Accepted r = record { more = true; whole = true; reader = r; place = after p u }
 heardOf p u (Refused x) r = record { more = false; whole = true; reader = r; place = within p u (codeOf x .first) }
 
-module _ (a : Automaton) (n m : ℕ) where
+module _ (a : Automaton) (τ : Target) where
   -- a call with the piece u
   pub record Hears (r : Reader) (p : Place) (u : List ℕ) (h : Heard) : Type 0 where
     pub reply : Reply
-    pub called : Called a n m r (told (run (last-variable a n m) (kept a n m) r u)) reply
+    pub called : Called a τ r (told (run (last a τ) (kept a τ) r u)) reply
     pub is : h ≡ heardOf p u (reply .answer) (reply .reader)
 
   -- the end of the input, or a piece that is not empty
@@ -42,7 +43,7 @@ module _ (a : Automaton) (n m : ℕ) where
 
   -- no call with this reader is accepted any more
   abbrev pub Closed : Reader → Type 0
-  Closed r = Valid a → Dimensioned n m → refusedAt (r .scan .place) ≡ true
+  Closed r = Valid a → Dimensioned τ → refusedAt (r .scan .place) ≡ true
 
   -- The pieces so far, of which the first is empty. While there may be more, nothing was refused. The place is that of the offset that the reader carries.
   pub record SoFar (h : Heard) : Type 0 where
@@ -52,9 +53,9 @@ module _ (a : Automaton) (n m : ℕ) where
     pub answers : List ℤ
     pub brought : Brought answers brought-pieces
     pub last : h .more ≡ false → Last (Closed (h .reader)) (h .whole)
-    pub reads : Reads a n m fresh pieces (h .reader)
-    pub accepted : h .more ≡ true → ¬ ¬ (Valid a × Dimensioned n m × (refusedAt (h .reader .scan .place) ≡ false))
-    pub placed : Valid a → Dimensioned n m → h .place ≡ placeOf (joined pieces) (h .reader .scan .at)
+    pub reads : Reads a τ fresh pieces (h .reader)
+    pub accepted : h .more ≡ true → ¬ ¬ (Valid a × Dimensioned τ × (refusedAt (h .reader .scan .place) ≡ false))
+    pub placed : Valid a → Dimensioned τ → h .place ≡ placeOf (joined pieces) (h .reader .scan .at)
 
 -- the place of a refusal at the end of the text, behind which `nothing` comes
 abbrev pub endedAt : Decision → Place → List ℕ → Place

@@ -1,5 +1,6 @@
 // Solver text as the programs get it, in pieces of 64 KiB, and what the decoder makes of it.
 use automaton::Automaton;
+use clause_sizes::Target;
 use console_places::Place;
 use console_places::part::first;
 use console_read::read_some;
@@ -28,17 +29,16 @@ pub fn read(
     fd: i32,
     name: &[u8],
     reference: Automaton,
-    n: usize,
-    m: usize,
+    target: Target,
     prefix: &mut [u8],
     cycle: &mut [u8],
 ) -> Told
-    ensures { λ r. ⌜ FromPieces (now (prefix .entry)) (now (prefix .exit)) (now (cycle .entry)) (now (cycle .exit)) r reference n m ⌝ }
+    ensures { λ r. ⌜ FromPieces (now (prefix .entry)) (now (prefix .exit)) (now (cycle .entry)) (now (cycle .exit)) r reference target ⌝ }
 {
-    let heard = hear_all(fd, name, reference, n, m);
+    let heard = hear_all(fd, name, reference, target);
     let reader = heard.reader;
     let place = heard.place;
-    let decoded = decode(reference, n, m, reader, prefix, cycle);
+    let decoded = decode(reference, target, reader, prefix, cycle);
     let answer = decoded.answer;
     Told {
         whole: heard.whole,
@@ -75,27 +75,26 @@ struct Heard {
 
 // An empty piece comes first: what is refused before reading is refused before the text is waited for. Byte 4,294,967,295 is
 // refused, so a text ends.
-fn hear_all(fd: i32, name: &[u8], reference: Automaton, n: usize, m: usize) -> Heard
-    ensures so_far { λ r. ⌜ SoFar reference n m r ⌝ }
+fn hear_all(fd: i32, name: &[u8], reference: Automaton, target: Target) -> Heard
+    ensures so_far { λ r. ⌜ SoFar reference target r ⌝ }
     ensures over { λ r. ⌜ r .more ≡ false ⌝ }
 {
     let mut heard = hear(
         Reader::fresh(),
         Place::first(),
         reference,
-        n,
-        m,
+        target,
         first(name, 0),
     );
     while heard.more {
-        heard = hear_some(heard, fd, name, reference, n, m);
+        heard = hear_some(heard, fd, name, reference, target);
     }
     heard
 }
 
 // One piece more.
-fn hear_some(heard: Heard, fd: i32, name: &[u8], reference: Automaton, n: usize, m: usize) -> Heard
-    ensures { λ r. ⌜ Goes reference n m heard r ⌝ }
+fn hear_some(heard: Heard, fd: i32, name: &[u8], reference: Automaton, target: Target) -> Heard
+    ensures { λ r. ⌜ Goes reference target heard r ⌝ }
 {
     let reader = heard.reader;
     let place = heard.place;
@@ -109,20 +108,13 @@ fn hear_some(heard: Heard, fd: i32, name: &[u8], reference: Automaton, n: usize,
             place,
         };
     }
-    hear(reader, place, reference, n, m, first(&piece, got.length))
+    hear(reader, place, reference, target, first(&piece, got.length))
 }
 
-fn hear(
-    reader: Reader,
-    place: Place,
-    reference: Automaton,
-    n: usize,
-    m: usize,
-    piece: &[u8],
-) -> Heard
-    ensures { λ r. ⌜ Hears reference n m reader place (now (piece .entry)) r ⌝ }
+fn hear(reader: Reader, place: Place, reference: Automaton, target: Target, piece: &[u8]) -> Heard
+    ensures { λ r. ⌜ Hears reference target reader place (now (piece .entry)) r ⌝ }
 {
-    let reply = reader.read(reference, n, m, piece);
+    let reply = reader.read(reference, target, piece);
     let answer = reply.answer;
     let reader = reply.reader;
     match answer {

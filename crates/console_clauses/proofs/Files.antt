@@ -9,7 +9,9 @@ use Rattle.refusals.specs.declared.Code.{Code}
 use Rattle.refusals.specs.declared.Refusal.{Refusal}
 use Rattle.refusals.specs.Refused.{codeOf}
 use Rattle.automaton.specs.Value.{Valid}
-use Rattle.clause_sizes.specs.Sizes.{Dimensioned, Refuses, outside, dimensions}
+use Rattle.clause_sizes.specs.declared.Target.{Target}
+use Rattle.clause_sizes.specs.Targets.{Dimensioned}
+use Rattle.clause_sizes.specs.Sizes.{Refuses, outside, dimensions}
 use Rattle.clause_header.specs.declared.Totals.{Totals}
 use Rattle.clause_header.specs.declared.Totals.the-variants.{Of, Refused}
 use Rattle.clause_header.specs.Header.{Headed}
@@ -21,31 +23,31 @@ use Rattle.console_print.specs.Handed.{Hands}
 use Rattle.console_clauses.specs.Prints.{headerText, HandsFile}
 use Rattle.console_clauses.specs.Batch.{HandsBehind}
 
-module _ {a : Automaton} {n m : ℕ} where
-  accepted-not : {f : Refusal} {c : Option Code} → Valid a → Dimensioned n m → Refuses a n m f c → ⊥
+module _ {a : Automaton} {τ : Target} where
+  accepted-not : {f : Refusal} {c : Option Code} → Valid a → Dimensioned τ → Refuses a τ f c → ⊥
   accepted-not v z (outside h) = h v
   accepted-not v z (dimensions w h) = h z
 
-  one-refusal : {f g : Refusal} {c d : Option Code} → Refuses a n m f c → Refuses a n m g d → f ≡ g
+  one-refusal : {f g : Refusal} {c d : Option Code} → Refuses a τ f c → Refuses a τ g d → f ≡ g
   one-refusal (outside h) (outside k) = refl
   one-refusal (outside h) (dimensions v k) = absurd (h v)
   one-refusal (dimensions v h) (outside k) = absurd (k v)
   one-refusal (dimensions v h) (dimensions w k) = refl
 
-  module _ (t : Totals) (h : Headed a n m t) where
-    pub admitted : {last count : ℕ} → t ≡ Of last count → Valid a × Dimensioned n m
-    admitted e = let (v, z, k) = subst (Headed a n m) e h in (v, z)
+  module _ (t : Totals) (h : Headed a τ t) where
+    pub admitted : {last count : ℕ} → t ≡ Of last count → Valid a × Dimensioned τ
+    admitted e = let (v, z, k) = subst (Headed a τ) e h in (v, z)
 
-    pub file-handed : {last count : ℕ} {header : Printed} {r : Printout} → t ≡ Of last count → Hands (headerLine last count) header → HandsBehind a n m header r
-        → HandsFile a n m r
+    pub file-handed : {last count : ℕ} {header : Printed} {r : Printout} → t ≡ Of last count → Hands (headerLine last count) header → HandsBehind a τ header r
+        → HandsFile a τ r
     file-handed e g f =
-        let (v, z, k) = subst (Headed a n m) e h in
+        let (v, z, k) = subst (Headed a τ) e h in
         let first = g ∙ ap₂ (λ x y. length (headerLine x y)) (k .0) (k .1) in
         record {
           file = λ _ _. record {
             calls = f .calls;
             called = f .called;
-            bytes = f .bytes ∙ ap (λ l. l + length (all-bytes (f .calls))) first ∙ sym (length-append (headerText a n m) (all-bytes (f .calls)));
+            bytes = f .bytes ∙ ap (λ l. l + length (all-bytes (f .calls))) first ∙ sym (length-append (headerText a τ) (all-bytes (f .calls)));
             accepted = f .accepted;
             whole = f .whole;
             stops = λ e. f .stops (sym (f .headed) ∙ e);
@@ -53,7 +55,7 @@ module _ {a : Automaton} {n m : ℕ} where
           refused = λ g j. absurd (accepted-not v z j);
         }
 
-    pub refusal-handed : {f : Refusal} {r : Printout} → t ≡ Refused f → (r .whole ≡ false) × (r .bytes ≡ length (refusedLine f)) → HandsFile a n m r
+    pub refusal-handed : {f : Refusal} {r : Printout} → t ≡ Refused f → (r .whole ≡ false) × (r .bytes ≡ length (refusedLine f)) → HandsFile a τ r
     refusal-handed {f} {r} e (w, b) =
-        let k : Refuses a n m f (some (codeOf f)) = subst (Headed a n m) e h in
+        let k : Refuses a τ f (some (codeOf f)) = subst (Headed a τ) e h in
         record { file = λ v z. absurd (accepted-not v z k); refused = λ g j. (w, b ∙ ap (λ x. length (refusedLine x)) (one-refusal k j)) }

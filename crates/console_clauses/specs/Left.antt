@@ -7,12 +7,11 @@ use lib.IntN.{ℤ}
 use lib.ListN.{length, take, length-drop, length-append}
 use Rattle.automaton.specs.declared.Automaton.{Automaton}
 use Rattle.automaton.specs.Value.{Valid}
-use Rattle.automaton.specs.View.{view}
-use Rattle.encoding.specs.Variables.{base, base-number}
 use Rattle.encoding.specs.Clauses.{each}
 use Rattle.encoding.specs.Positions.{positions, at-position}
 use Rattle.encoding.specs.ByPosition.{at-most-one}
-use Rattle.clause_sizes.specs.Sizes.{Dimensioned}
+use Rattle.clause_sizes.specs.declared.Target.{Target}
+use Rattle.clause_sizes.specs.Targets.{Dimensioned, task, numbers}
 use Rattle.clause_list.specs.Next.{clauses-from}
 use Rattle.clause_step.specs.Step.{last-position}
 use Rattle.clause_step.specs.Range.{positions-le}
@@ -21,25 +20,25 @@ use Rattle.clause_step.specs.declared.Handed.{Handed}
 use Rattle.clause_words.specs.Text.{linesText}
 use Rattle.clause_text.specs.Answers.{BatchAnswers, BatchStepped}
 
-abbrev from : Automaton → ℕ → ℕ → ℕ → List (List ℤ)
-from a n m x = clauses-from (base (view a) n m) (base-number (view a) n m) x
+abbrev from : Automaton → Target → ℕ → List (List ℤ)
+from a τ x = clauses-from (task a τ) (numbers a τ) x
 
-abbrev pub left : Automaton → ℕ → ℕ → ℕ → ℕ
-left a n m x = length (from a n m x)
+abbrev pub left : Automaton → Target → ℕ → ℕ
+left a τ x = length (from a τ x)
 
 -- a text that is not empty is that of one line at least
 some-lines : (count : ℕ) (cs : List (List ℤ)) → 1 ≤ length (linesText (take count cs)) → 1 ≤ count
 some-lines zero cs h = h
 some-lines (suc count) cs h = omega arith
 
-pub fewer-left : (a : Automaton) (n m x : ℕ) (d e : List ℕ) (r : Handed) (k : ℕ) → BatchStepped a n m x d e r → r .answer ≡ Written k
-    → left a n m (r .position) < left a n m x
-fewer-left a n m x d e r k s is = go (subst (λ w. BatchAnswers a n m x d e w (r .position)) is s)
+pub fewer-left : (a : Automaton) (τ : Target) (x : ℕ) (d e : List ℕ) (r : Handed) (k : ℕ) → BatchStepped a τ x d e r → r .answer ≡ Written k
+    → left a τ (r .position) < left a τ x
+fewer-left a τ x d e r k s is = go (subst (λ w. BatchAnswers a τ x d e w (r .position)) is s)
   where
-    go : BatchAnswers a n m x d e (Written k) (r .position) → left a n m (r .position) < left a n m x
+    go : BatchAnswers a τ x d e (Written k) (r .position) → left a τ (r .position) < left a τ x
     go (ok, (f, h)) =
-        let some : 1 ≤ f .lines .count = some-lines (f .lines .count) (from a n m x) (omega (arith, f .lines .text .next)) in
-        omega (arith, some, f .lines .there, ap length (f .lines .next), length-drop (f .lines .count) (from a n m x))
+        let some : 1 ≤ f .lines .count = some-lines (f .lines .count) (from a τ x) (omega (arith, f .lines .text .next)) in
+        omega (arith, some, f .lines .there, ap length (f .lines .next), length-drop (f .lines .count) (from a τ x))
 
 -- no file has more clauses than positions
 each-le : (k : ℕ) (f : ℕ → List (List ℤ)) → ((i : ℕ) → length (f i) ≤ 1) → length (each k f) ≤ k
@@ -47,13 +46,13 @@ unfolding each
 each-le zero f h = omega arith
 each-le (suc k) f h = omega (arith, length-append (each k f) (f k), h k, each-le k f h)
 
-pub left-le : {a : Automaton} {n m : ℕ} → Valid a → Dimensioned n m → (x : ℕ) → left a n m x ≤ last-position
+pub left-le : {a : Automaton} {τ : Target} → Valid a → Dimensioned τ → (x : ℕ) → left a τ x ≤ last-position
 unfolding clauses-from
-left-le {a} {n} {m} v d x =
-    let T = base (view a) n m in
-    let num = base-number (view a) n m in
+left-le {a} {τ} v d x =
+    let T = task a τ in
+    let num = numbers a τ in
     omega (arith, each-le (positions T num - x) (λ i. at-position T num (x + i)) (λ i. at-most-one T num (x + i)), positions-le v d)
 
 -- at 65,536 bytes for each, they have less than 2 ^ 64, those of a header before them included
-pub start-le : {a : Automaton} {n m k : ℕ} → Valid a → Dimensioned n m → k ≤ 80 → (x : ℕ) → k + 65536 * left a n m x ≤ 80 + 65536 * 8657059969
+pub start-le : {a : Automaton} {τ : Target} {k : ℕ} → Valid a → Dimensioned τ → k ≤ 80 → (x : ℕ) → k + 65536 * left a τ x ≤ 80 + 65536 * 8657059969
 start-le v d h x = omega (arith, h, left-le v d x)

@@ -7,7 +7,8 @@ use Prim.Native.Nat.{ℕ}
 use lib.ListN.{length}
 use Rattle.automaton.specs.declared.Automaton.{Automaton}
 use Rattle.automaton.specs.Value.{Valid}
-use Rattle.clause_sizes.specs.Sizes.{Dimensioned}
+use Rattle.clause_sizes.specs.declared.Target.{Target}
+use Rattle.clause_sizes.specs.Targets.{Dimensioned}
 use Rattle.clause_step.specs.declared.Answer.{Answer}
 use Rattle.clause_step.specs.declared.Answer.the-variants.{Written, Ended, Refused}
 use Rattle.clause_text.specs.Batches.{TextCall, all-bytes, LinesOut}
@@ -30,25 +31,25 @@ the-ended (c ∷ cs) e = go (ended (c .result .answer)) refl e (λ f. the-ended 
     go true f e later = (c, List·Memᴰ·head refl, ended-is (c .result .answer) f)
     go false f e later = let (d, j, q) = later e in (d, List·Memᴰ·tail j, q)
 
-module _ {a : Automaton} {n m : ℕ} {r : Printout} (v : Valid a) (z : Dimensioned n m) (h : HandsFile a n m r) where
-  abbrev handed : HandsLines a n m r
+module _ {a : Automaton} {τ : Target} {r : Printout} (v : Valid a) (z : Dimensioned τ) (h : HandsFile a τ r) where
+  abbrev handed : HandsLines a τ r
   handed = h .file v z
 
-  lines : LinesOut a n m (handed .calls)
+  lines : LinesOut a τ (handed .calls)
   lines = lines-out v z (handed .calls) (handed .called)
 
   -- the bytes handed over, and what of the file is left
-  pub begins : (left : List ℕ) × ((headerText a n m ++ all-bytes (h .file v z .calls)) ++ left ≡ fileText a n m)
-  begins = (lines .left, append-assoc (headerText a n m) (all-bytes (handed .calls)) (lines .left) ∙ ap (λ t. headerText a n m ++ t) (lines .begins))
+  pub begins : (left : List ℕ) × ((headerText a τ ++ all-bytes (h .file v z .calls)) ++ left ≡ fileText a τ)
+  begins = (lines .left, append-assoc (headerText a τ) (all-bytes (handed .calls)) (lines .left) ∙ ap (λ t. headerText a τ ++ t) (lines .begins))
 
   -- a header that was not taken: its bytes, and no more
-  pub header-only : r .headed ≡ false → (r .bytes ≡ length (headerText a n m)) × (r .whole ≡ false)
+  pub header-only : r .headed ≡ false → (r .bytes ≡ length (headerText a τ)) × (r .whole ≡ false)
   header-only e =
       let none = handed .stops e in
-      (handed .bytes ∙ ap (λ cs. length (headerText a n m ++ all-bytes cs)) none ∙ ap length (append-nil (headerText a n m)), handed .whole ∙ ap (some-call ended) none)
+      (handed .bytes ∙ ap (λ cs. length (headerText a τ ++ all-bytes cs)) none ∙ ap length (append-nil (headerText a τ)), handed .whole ∙ ap (some-call ended) none)
 
-  pub whole-file : r .whole ≡ true → (headerText a n m ++ all-bytes (h .file v z .calls) ≡ fileText a n m) × (r .bytes ≡ length (fileText a n m))
+  pub whole-file : r .whole ≡ true → (headerText a τ ++ all-bytes (h .file v z .calls) ≡ fileText a τ) × (r .bytes ≡ length (fileText a τ))
   whole-file w =
       let (c, j, q) = the-ended (handed .calls) (sym (handed .whole) ∙ w) in
-      let e = ap (λ t. headerText a n m ++ t) (lines .whole c j q) in
+      let e = ap (λ t. headerText a τ ++ t) (lines .whole c j q) in
       (e, handed .bytes ∙ ap length e)

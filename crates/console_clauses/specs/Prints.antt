@@ -10,10 +10,9 @@ use Rattle.automaton.specs.declared.Automaton.{Automaton}
 use Rattle.refusals.specs.declared.Refusal.{Refusal}
 use Rattle.refusals.specs.Refused.{codeOf}
 use Rattle.automaton.specs.Value.{Valid}
-use Rattle.automaton.specs.View.{view}
-use Rattle.encoding.specs.Variables.{base-variables}
-use Rattle.encoding.specs.Clauses.{base-file}
-use Rattle.clause_sizes.specs.Sizes.{Dimensioned, Refuses}
+use Rattle.clause_sizes.specs.declared.Target.{Target}
+use Rattle.clause_sizes.specs.Targets.{Dimensioned, last, file}
+use Rattle.clause_sizes.specs.Sizes.{Refuses}
 use Rattle.clause_step.specs.declared.Answer.{Answer}
 use Rattle.clause_step.specs.declared.Answer.the-variants.{Written, Ended, Refused}
 use Rattle.clause_step.specs.Step.{fresh-position}
@@ -23,12 +22,12 @@ use Rattle.console_report.specs.Lines.{headerLine, refusedLine}
 use Rattle.console_clauses.specs.declared.Printout.{Printout}
 
 -- "The header is `p cnf V C`"
-abbrev pub headerText : Automaton → (n m : ℕ) → List ℕ
-headerText a n m = headerLine (base-variables (view a) n m) (length (base-file (view a) n m))
+abbrev pub headerText : Automaton → Target → List ℕ
+headerText a τ = headerLine (last a τ) (length (file a τ))
 
 -- the clause file, header first
-abbrev pub fileText : Automaton → (n m : ℕ) → List ℕ
-fileText a n m = headerText a n m ++ linesText (base-file (view a) n m)
+abbrev pub fileText : Automaton → Target → List ℕ
+fileText a τ = headerText a τ ++ linesText (file a τ)
 
 -- an answer says "ended"
 abbrev pub ended : Answer → Bool
@@ -50,15 +49,15 @@ some-call test (c ∷ cs) = test (c .result .answer) || some-call test cs
 -- the header's line, and then the lines of the clauses: there is a list of calls from the fresh position on, each with the position that the call before it left, and the
 -- bytes that they wrote were handed over, so many in all. None is turned down, and they are whole exactly if a call said "ended"; otherwise the output did not take the last
 -- bytes. Where it did not take the header's, there is no call: just the header's bytes were handed over, and the file is not whole.
-pub record HandsLines (a : Automaton) (n m : ℕ) (r : Printout) : Type 0 where
+pub record HandsLines (a : Automaton) (τ : Target) (r : Printout) : Type 0 where
   pub calls : List TextCall
-  pub called : TextCalls a n m fresh-position calls
-  pub bytes : r .bytes ≡ length (headerText a n m ++ all-bytes calls)
+  pub called : TextCalls a τ fresh-position calls
+  pub bytes : r .bytes ≡ length (headerText a τ ++ all-bytes calls)
   pub accepted : some-call turned-down calls ≡ false
   pub whole : r .whole ≡ some-call ended calls
   pub stops : r .headed ≡ false → calls ≡ []
 
 -- the file, or the line of a refusal
-pub record HandsFile (a : Automaton) (n m : ℕ) (r : Printout) : Type 0 where
-  pub file : Valid a → Dimensioned n m → HandsLines a n m r
-  pub refused : (f : Refusal) → Refuses a n m f (some (codeOf f)) → (r .whole ≡ false) × (r .bytes ≡ length (refusedLine f))
+pub record HandsFile (a : Automaton) (τ : Target) (r : Printout) : Type 0 where
+  pub file : Valid a → Dimensioned τ → HandsLines a τ r
+  pub refused : (f : Refusal) → Refuses a τ f (some (codeOf f)) → (r .whole ≡ false) × (r .bytes ≡ length (refusedLine f))

@@ -2,6 +2,7 @@
 use automaton::Automaton;
 use clause_header::Totals;
 use clause_header::header;
+use clause_sizes::Target;
 use clause_step::Answer;
 use clause_step::fresh;
 use clause_text::lines;
@@ -17,7 +18,7 @@ ghost use mathlib.Core.Bool.{false};
 ghost use Prim.Native.Nat.{_≤_};
 ghost use lib.ListN.{length as count};
 ghost use Rattle.automaton.specs.Value.{Valid};
-ghost use Rattle.clause_sizes.specs.Sizes.{Dimensioned};
+ghost use Rattle.clause_sizes.specs.Targets.{Dimensioned};
 ghost use Rattle.console_report.specs.Lines.{headerLine, refusedLine};
 ghost use Rattle.console_print.specs.Handed.{Hands};
 ghost use Rattle.console_clauses.specs.Prints.{HandsFile};
@@ -31,14 +32,14 @@ pub struct Printout {
 }
 
 // Prints the clause file, header first, or its refusal. Nothing comes behind bytes that the output did not take.
-pub fn print_file(reference: Automaton, n: usize, m: usize) -> Printout
-    ensures { λ r. ⌜ HandsFile reference n m r ⌝ }
+pub fn print_file(reference: Automaton, target: Target) -> Printout
+    ensures { λ r. ⌜ HandsFile reference target r ⌝ }
 {
-    let totals = header(reference, n, m);
+    let totals = header(reference, target);
     match totals {
         Totals::Of(variables, clauses) => {
             let header = print_header(variables, clauses);
-            print_clauses(reference, n, m, header)
+            print_clauses(reference, target, header)
         }
         Totals::Refused(x) => print_refusal(x),
     }
@@ -66,11 +67,11 @@ fn print_header(variables: u64, clauses: u64) -> Printed
 }
 
 // No batch follows a header that the output did not take. Each batch leaves fewer clauses, and has at most 65,536 bytes.
-fn print_clauses(reference: Automaton, n: usize, m: usize, header: Printed) -> Printout
+fn print_clauses(reference: Automaton, target: Target, header: Printed) -> Printout
     requires { ⌜ Valid reference ⌝ }
-    requires { ⌜ Dimensioned n m ⌝ }
+    requires { ⌜ Dimensioned target ⌝ }
     requires { ⌜ header .length ≤ 80 ⌝ }
-    ensures { λ r. ⌜ HandsBehind reference n m header r ⌝ }
+    ensures { λ r. ⌜ HandsBehind reference target header r ⌝ }
 {
     let mut bytes = header.length as u64;
     if !header.written {
@@ -82,7 +83,7 @@ fn print_clauses(reference: Automaton, n: usize, m: usize, header: Printed) -> P
     }
     let mut position = fresh();
     loop {
-        let next = print_batch(reference, n, m, position);
+        let next = print_batch(reference, target, position);
         bytes += next.length as u64;
         if !next.more {
             return Printout {
@@ -105,14 +106,14 @@ struct Next {
 }
 
 // As many lines as a buffer holds. It has room for one, so that the call is not refused.
-fn print_batch(reference: Automaton, n: usize, m: usize, position: u64) -> Next
+fn print_batch(reference: Automaton, target: Target, position: u64) -> Next
     requires { ⌜ Valid reference ⌝ }
-    requires { ⌜ Dimensioned n m ⌝ }
+    requires { ⌜ Dimensioned target ⌝ }
     requires { ⌜ position ≤ 8657059969 ⌝ }
-    ensures { λ r. ⌜ HandsBatch reference n m position r ⌝ }
+    ensures { λ r. ⌜ HandsBatch reference target position r ⌝ }
 {
     let mut text = io::large_buffer();
-    let handed = lines(reference, n, m, position, &mut text);
+    let handed = lines(reference, target, position, &mut text);
     let answer = handed.answer;
     let position = handed.position;
     match answer {

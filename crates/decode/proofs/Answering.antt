@@ -10,8 +10,9 @@ use Rattle.refusals.specs.declared.Refusal.{Refusal}
 use Rattle.refusals.specs.declared.Refusal.the-variants.{Outside, Dimensions, SolverForm, Short}
 use Rattle.refusals.specs.Refused.{row}
 use Rattle.automaton.specs.Value.{Valid}
+use Rattle.clause_sizes.specs.declared.Target.{Target}
+use Rattle.clause_sizes.specs.Targets.{Dimensioned}
 use Rattle.compare.specs.Compared.{prefixRoom, loopRoom}
-use Rattle.clause_sizes.specs.Sizes.{Dimensioned}
 use Rattle.solver_text.specs.declared.Reader.{Reader}
 use Rattle.solver_text.specs.declared.Reply.{Reply}
 use denote.Enum.Declared.{tagOf, declared}
@@ -35,18 +36,18 @@ accepted-tag (TurnedDown x) e = absurd (omega arith)
 
 -- ---- the verdict
 
-module _ (p p′ l l′ : List ℕ) (x : Decoded) (a : Automaton) (n m : ℕ) (r : Reader) where
+module _ (p p′ l l′ : List ℕ) (x : Decoded) (a : Automaton) (τ : Target) (r : Reader) where
   -- what is said for a verdict
   abbrev pub Answered : Verdict → Type 0
   Answered Unstated = Untouched p p′ l l′ x (without (Refused (SolverForm (r .scan .at)))) (some (row 9 (r .scan .at) 0))
-  Answered Satisfiable = ByAssignment p p′ l l′ x a n m (said r)
+  Answered Satisfiable = ByAssignment p p′ l l′ x a τ (said r)
   Answered Unsatisfiable = Untouched p p′ l l′ x (without None) none
   Answered NotKnown = Untouched p p′ l l′ x (without Unknown) none
 
-pub answered : {p p′ l l′ : List ℕ} {x : Decoded} {a : Automaton} {n m : ℕ} {r : Reader} (v : Verdict) → r .scan .verdict ≡ v
-    → Answered p p′ l l′ x a n m r v → ByVerdict p p′ l l′ x a n m r
-answered {p} {p′} {l} {l′} {x} {a} {n} {m} {r} v e t =
-    let A : Verdict → Type 0 = Answered p p′ l l′ x a n m r in
+pub answered : {p p′ l l′ : List ℕ} {x : Decoded} {a : Automaton} {τ : Target} {r : Reader} (v : Verdict) → r .scan .verdict ≡ v
+    → Answered p p′ l l′ x a τ r v → ByVerdict p p′ l l′ x a τ r
+answered {p} {p′} {l} {l′} {x} {a} {τ} {r} v e t =
+    let A : Verdict → Type 0 = Answered p p′ l l′ x a τ r in
     record {
       unstated = λ f. subst A (sym e ∙ f) t;
       none = λ f. subst A (sym e ∙ f) t;
@@ -59,8 +60,8 @@ answered {p} {p′} {l} {l′} {x} {a} {n} {m} {r} v e t =
 clash : {P : Type 0} (f : Refusal) → Accepted ≡ TurnedDown f → P
 clash f e = let z : _≡_ {A = ℕ} 0 1 = cc in absurd (omega arith)
 
-module _ (a : Automaton) (n m : ℕ) (r : Reader) (p l : List ℕ) where
-  pub prefix-short : {x : Decoded} → length p < prefixRoom → x ≡ without (Refused (Short prefixRoom (length p))) → Decodes p p l l x a n m r
+module _ (a : Automaton) (τ : Target) (r : Reader) (p l : List ℕ) where
+  pub prefix-short : {x : Decoded} → length p < prefixRoom → x ≡ without (Refused (Short prefixRoom (length p))) → Decodes p p l l x a τ r
   prefix-short h e = record {
     short-prefix = λ g. untouched e;
     short-loop = λ g. absurd (omega arith);
@@ -72,7 +73,7 @@ module _ (a : Automaton) (n m : ℕ) (r : Reader) (p l : List ℕ) where
   }
 
   module _ (hp : prefixRoom ≤ length p) where
-    pub loop-short : {x : Decoded} → length l < loopRoom → x ≡ without (Refused (Short loopRoom (length l))) → Decodes p p l l x a n m r
+    pub loop-short : {x : Decoded} → length l < loopRoom → x ≡ without (Refused (Short loopRoom (length l))) → Decodes p p l l x a τ r
     loop-short h e = record {
       short-prefix = λ g. absurd (omega arith);
       short-loop = λ _ g. untouched e;
@@ -83,15 +84,15 @@ module _ (a : Automaton) (n m : ℕ) (r : Reader) (p l : List ℕ) where
       accepted = λ d. absurd (omega (arith, d .loop-room));
     }
 
-    module _ (hl : loopRoom ≤ length l) {y : Reply} (c : Called a n m r (whole a n m r) y) where
+    module _ (hl : loopRoom ≤ length l) {y : Reply} (c : Called a τ r (whole a τ r) y) where
       -- the reader turns something down
-      pub refused-answer : {x : Decoded} (f : Refusal) → y .answer ≡ TurnedDown f → x ≡ without (Refused f) → Decodes p p l l x a n m r
+      pub refused-answer : {x : Decoded} (f : Refusal) → y .answer ≡ TurnedDown f → x ≡ without (Refused f) → Decodes p p l l x a τ r
       refused-answer {x} f h e = record {
         short-prefix = λ g. absurd (omega arith);
         short-loop = λ _ g. absurd (omega arith);
         automaton = λ _ _ k. untouched (same Outside (c .automaton k));
         state = λ _ _ k. untouched (same Outside (c .state k));
-        dimensions = λ _ _ v s k. untouched (same (Dimensions n m) (c .sizes v s k));
+        dimensions = λ _ _ v s k. untouched (same (Dimensions (τ .states) (τ .sets)) (c .sizes v s k));
         text = λ d g k. untouched (turned g (sym h ∙ ap (λ z. z .answer) (c .text (d .valid) (d .in-range) (d .sizes)) ∙ k));
         accepted = λ d k. clash f (sym k ∙ sym (ap (λ z. z .answer) (c .text (d .valid) (d .in-range) (d .sizes))) ∙ h);
       }
@@ -103,14 +104,14 @@ module _ (a : Automaton) (n m : ℕ) (r : Reader) (p l : List ℕ) where
           same g k = turned g (sym h ∙ ap (λ z. z .answer) k)
 
       -- or not
-      pub accepted-answer : {p′ l′ : List ℕ} {x : Decoded} → y .answer ≡ Accepted → (Valid a → Dimensioned n m → ByVerdict p p′ l l′ x a n m (y .reader))
-          → Decodes p p′ l l′ x a n m r
+      pub accepted-answer : {p′ l′ : List ℕ} {x : Decoded} → y .answer ≡ Accepted → (Valid a → Dimensioned τ → ByVerdict p p′ l l′ x a τ (y .reader))
+          → Decodes p p′ l l′ x a τ r
       accepted-answer {p′} {l′} {x} h t = record {
         short-prefix = λ g. absurd (omega arith);
         short-loop = λ _ g. absurd (omega arith);
         automaton = λ _ _ k. clash Outside (sym h ∙ ap (λ z. z .answer) (c .automaton k));
         state = λ _ _ k. clash Outside (sym h ∙ ap (λ z. z .answer) (c .state k));
-        dimensions = λ _ _ v s k. clash (Dimensions n m) (sym h ∙ ap (λ z. z .answer) (c .sizes v s k));
+        dimensions = λ _ _ v s k. clash (Dimensions (τ .states) (τ .sets)) (sym h ∙ ap (λ z. z .answer) (c .sizes v s k));
         text = λ d g k. clash g (sym h ∙ ap (λ z. z .answer) (c .text (d .valid) (d .in-range) (d .sizes)) ∙ k);
-        accepted = λ d k. subst (λ z. ByVerdict p p′ l l′ x a n m (z .reader)) (c .text (d .valid) (d .in-range) (d .sizes)) (t (d .valid) (d .sizes));
+        accepted = λ d k. subst (λ z. ByVerdict p p′ l l′ x a τ (z .reader)) (c .text (d .valid) (d .in-range) (d .sizes)) (t (d .valid) (d .sizes));
       }

@@ -15,9 +15,10 @@ use Rattle.refusals.specs.Refused.{row, codeOf}
 use Rattle.automaton.specs.Value.{Valid, empty}
 use Rattle.automaton.specs.View.{view}
 use Rattle.encoding.specs.Clauses.{Assignment}
+use Rattle.clause_sizes.specs.declared.Target.{Target}
+use Rattle.clause_sizes.specs.Targets.{Dimensioned, last, kept}
 use Rattle.compare.specs.declared.Comparison.{Comparison}
 use Rattle.compare.specs.Compared.{Shown, prefixRoom, loopRoom}
-use Rattle.clause_sizes.specs.Sizes.{Dimensioned}
 use Rattle.solver_text.specs.declared.Reader.{Reader}
 use Rattle.solver_text.specs.declared.Reply.{Reply}
 use Rattle.solver_text.specs.declared.Answer.the-variants.{Accepted, Refused as TurnedDown}
@@ -25,7 +26,7 @@ use Rattle.solver_scan.specs.declared.Verdict.the-variants.{Unstated, Satisfiab
 use Rattle.solver_scan.specs.SolverText.{Seen, Outcome, gives, refused}
 use Rattle.solver_agreement.specs.Assignment.{asserted}
 use Rattle.solver_text.specs.Machine.{told, end}
-use Rattle.solver_text.specs.Calls.{InRange, last, kept}
+use Rattle.solver_text.specs.Calls.{InRange}
 use Rattle.decode.specs.declared.Answer.{Answer}
 use Rattle.decode.specs.declared.Answer.the-variants.{Table, None, Unknown, Refused}
 use Rattle.decode.specs.declared.Decoded.{Decoded}
@@ -34,8 +35,8 @@ use Rattle.decode.specs.Table.{decodedValue, AllStep, LowestWithout}
 -- ---- what the reader holds
 
 -- the reply at the end of the text
-abbrev pub whole : Automaton → ℕ → ℕ → Reader → Reply
-whole a n m r = told (end (last a n m) (kept a n m) r)
+abbrev pub whole : Automaton → Target → Reader → Reply
+whole a τ r = told (end (last a τ) (kept a τ) r)
 
 -- "An unnamed variable is false": a variable is true where it is named without a minus, which a reader keeps as 1
 abbrev pub said : Reader → Assignment
@@ -76,26 +77,26 @@ module _ (prefix prefix-after loop loop-after : List ℕ) (x : Decoded) where
     pub differ : ¬ Agree (view C) (view a) → Differs a C
 
   -- 11, and else the comparison
-  pub record ByAssignment (a : Automaton) (n m : ℕ) (ν : Assignment) : Type 0 where
-    pub no-step : (q l : ℕ) → LowestWithout a n m ν q l → Untouched (without (Refused (NoStep q l))) (some (row 11 q l))
-    pub table : AllStep a n m ν → ByComparison a (decodedValue a n m ν)
+  pub record ByAssignment (a : Automaton) (τ : Target) (ν : Assignment) : Type 0 where
+    pub no-step : (q l : ℕ) → LowestWithout a τ ν q l → Untouched (without (Refused (NoStep q l))) (some (row 11 q l))
+    pub table : AllStep a τ ν → ByComparison a (decodedValue a τ ν)
 
   -- r is what a reader holds at the end of a text that is not turned down. Of a reader that read a text, the verdict is stated; for any
   -- other, "no `s` line" at the end is 9.
-  pub record ByVerdict (a : Automaton) (n m : ℕ) (r : Reader) : Type 0 where
+  pub record ByVerdict (a : Automaton) (τ : Target) (r : Reader) : Type 0 where
     pub unstated : r .scan .verdict ≡ Unstated → Untouched (without (Refused (SolverForm (r .scan .at)))) (some (row 9 (r .scan .at) 0))
     pub none : r .scan .verdict ≡ Unsatisfiable → Untouched (without None) option.none
     pub unknown : r .scan .verdict ≡ NotKnown → Untouched (without Unknown) option.none
-    pub satisfiable : r .scan .verdict ≡ Satisfiable → ByAssignment a n m (said r)
+    pub satisfiable : r .scan .verdict ≡ Satisfiable → ByAssignment a τ (said r)
 
-  module _ (a : Automaton) (n m : ℕ) (r : Reader) where
-    -- nothing speaks against the buffers, the reference, the reader's state, n and m
+  module _ (a : Automaton) (τ : Target) (r : Reader) where
+    -- nothing speaks against the buffers, the reference, the reader's state and the target
     pub record Admitted : Type 0 where
       pub prefix-room : prefixRoom ≤ length prefix
       pub loop-room : loopRoom ≤ length loop
       pub valid : Valid a
       pub in-range : InRange r
-      pub sizes : Dimensioned n m
+      pub sizes : Dimensioned τ
 
     -- "Order: 13 (prefix before loop), 4 for handed values, 8, then reading left to right, then 11, 14, 12." The text that the reader r has read
     -- ends here.
@@ -105,16 +106,16 @@ module _ (prefix prefix-after loop loop-after : List ℕ) (x : Decoded) where
           → Untouched (without (Refused (Short loopRoom (length loop)))) (some (row 13 loopRoom (length loop)))
       pub automaton : prefixRoom ≤ length prefix → loopRoom ≤ length loop → ¬ Valid a → Untouched (without (Refused Outside)) (some (row 4 0 0))
       pub state : prefixRoom ≤ length prefix → loopRoom ≤ length loop → ¬ InRange r → Untouched (without (Refused Outside)) (some (row 4 0 0))
-      pub dimensions : prefixRoom ≤ length prefix → loopRoom ≤ length loop → Valid a → InRange r → ¬ Dimensioned n m
-          → Untouched (without (Refused (Dimensions n m))) (some (row 8 n m))
+      pub dimensions : prefixRoom ≤ length prefix → loopRoom ≤ length loop → Valid a → InRange r → ¬ Dimensioned τ
+          → Untouched (without (Refused (Dimensions (τ .states) (τ .sets)))) (some (row 8 (τ .states) (τ .sets)))
       -- 9 and 10
-      pub text : Admitted → (f : Refusal) → whole a n m r .answer ≡ TurnedDown f → Untouched (without (Refused f)) (some (codeOf f))
-      pub accepted : Admitted → whole a n m r .answer ≡ Accepted → ByVerdict a n m (whole a n m r .reader)
+      pub text : Admitted → (f : Refusal) → whole a τ r .answer ≡ TurnedDown f → Untouched (without (Refused f)) (some (codeOf f))
+      pub accepted : Admitted → whole a τ r .answer ≡ Accepted → ByVerdict a τ (whole a τ r .reader)
 
 -- ---- the answer to a text with this outcome, whatever the pieces in which it came
-pub record OfText (prefix prefix-after loop loop-after : List ℕ) (x : Decoded) (a : Automaton) (n m : ℕ) (o : Outcome) : Type 0 where
+pub record OfText (prefix prefix-after loop loop-after : List ℕ) (x : Decoded) (a : Automaton) (τ : Target) (o : Outcome) : Type 0 where
   -- 9 and 10
   pub refusal : (f : Refusal) → o ≡ refused f → Untouched prefix prefix-after loop loop-after x (without (Refused f)) (some (codeOf f))
   pub none : (s : Seen) → o ≡ gives s → s .verdict ≡ Unsatisfiable → Untouched prefix prefix-after loop loop-after x (without None) option.none
   pub unknown : (s : Seen) → o ≡ gives s → s .verdict ≡ NotKnown → Untouched prefix prefix-after loop loop-after x (without Unknown) option.none
-  pub satisfiable : (s : Seen) → o ≡ gives s → s .verdict ≡ Satisfiable → ByAssignment prefix prefix-after loop loop-after x a n m (λ v. asserted v (s .literals))
+  pub satisfiable : (s : Seen) → o ≡ gives s → s .verdict ≡ Satisfiable → ByAssignment prefix prefix-after loop loop-after x a τ (λ v. asserted v (s .literals))

@@ -2,44 +2,45 @@
 -- such candidate is decoded from one, as a value.
 use mathlib.Core.Path.{_≡_, refl, sym, ap, _∙_}
 use mathlib.Core.Logic.{_↔_}
-use Prim.Native.Nat.{ℕ, _^_}
+use Prim.Native.Nat.{_^_}
 use Rattle.meaning.specs.Tests.{all}
 use Rattle.automaton.specs.declared.Automaton.{Automaton}
 use Rattle.automaton.specs.Value.{Valid}
 use Rattle.automaton.specs.View.{view}
 use Rattle.automaton.specs.ViewLaws.{view-formed}
 use Rattle.automaton.specs.Equality.{Same, equal-values}
-use Rattle.encoding.specs.Variables.{base, base-number}
-use Rattle.encoding.specs.Clauses.{Assignment, Satisfies, base-file, Equivalent, SameTable}
+use Rattle.encoding.specs.Clauses.{Assignment, Satisfies, Equivalent, SameTable}
 use Rattle.encoding.specs.Constraints.{constraints}
-use Rattle.encoding.specs.Base.{base-numbering, base-well-posed, base-encodes}
+use Rattle.encoding.specs.NamedFile.{named-numbering, named-well-posed, named-encodes}
 use Rattle.encoding.specs.SameTables.{same-agree}
-use Rattle.clause_sizes.specs.Sizes.{Dimensioned}
+use Rattle.clause_sizes.specs.declared.Target.{Target}
+use Rattle.clause_sizes.specs.Targets.{Dimensioned, task, numbers, file, named}
 use Rattle.decode.specs.Table.{decodedTable, decodedValue, AllStep}
 use Rattle.decode.specs.Found.{Candidate, Found}
 use Rattle.decode.specs.Value.{decoded-valid, decoded-view}
 
-module _ {a : Automaton} {n m : ℕ} (v : Valid a) (z : Dimensioned n m) where
-  pub decoded-candidate : (ν : Assignment) → AllStep a n m ν → Candidate a n m (decodedValue a n m ν)
+module _ {a : Automaton} {τ : Target} (v : Valid a) (z : Dimensioned τ) where
+  pub decoded-candidate : (ν : Assignment) → AllStep a τ ν → Candidate a τ (decodedValue a τ ν)
   decoded-candidate ν t = record {
     valid = decoded-valid v z ν t;
     states = refl;
     sets = refl;
     start = refl;
+    kind = tt;
     propositions = refl;
     names = λ i h. refl;
   }
 
   -- SOUND
 
-  pub satisfying-steps : (ν : Assignment) → Satisfies ν (base-file (view a) n m) → AllStep a n m ν
+  pub satisfying-steps : (ν : Assignment) → Satisfies ν (file a τ) → AllStep a τ ν
   satisfying-steps ν s =
-      constraints (base (view a) n m) (base-number (view a) n m) (base-numbering (view a) n m .from-1) ν (base-well-posed (view a) n m (view-formed v) (z .n-some)) .0 s .total
+      constraints (task a τ) (numbers a τ) (named-numbering (view a) (named τ) .from-1) ν (named-well-posed (view a) (named τ) (view-formed v) (z .n-some)) .0 s .total
 
-  pub satisfying-found : (ν : Assignment) → Satisfies ν (base-file (view a) n m) → Found a n m (decodedValue a n m ν)
+  pub satisfying-found : (ν : Assignment) → Satisfies ν (file a τ) → Found a τ (decodedValue a τ ν)
   satisfying-found ν s =
       let t = satisfying-steps ν s in
-      let E = base-encodes (view a) n m (view-formed v) (z .n-some) .sound ν s .0 in
+      let E = named-encodes (view a) (named τ) (view-formed v) (z .n-some) .sound ν s .0 in
       record {
         candidate = decoded-candidate ν t;
         agrees = same-agree (view a) (decoded-view v z ν t) (view-formed (decoded-valid v z ν t)) (E .candidate .formed) (E .agrees);
@@ -47,7 +48,7 @@ module _ {a : Automaton} {n m : ℕ} (v : Valid a) (z : Dimensioned n m) where
 
   -- COMPLETE
 
-  equivalent : {C : Automaton} → Found a n m C → Equivalent (base (view a) n m) (view C)
+  equivalent : {C : Automaton} → Found a τ C → Equivalent (task a τ) (view C)
   equivalent {C} f =
       let c = f .candidate in
       record {
@@ -62,10 +63,10 @@ module _ {a : Automaton} {n m : ℕ} (v : Valid a) (z : Dimensioned n m) where
         agrees = f .agrees;
       }
 
-  same-value : {C : Automaton} → Candidate a n m C → (ν : Assignment) → AllStep a n m ν → SameTable (decodedTable a n m ν) (view C) → decodedValue a n m ν ≡ C
+  same-value : {C : Automaton} → Candidate a τ C → (ν : Assignment) → AllStep a τ ν → SameTable (decodedTable a τ ν) (view C) → decodedValue a τ ν ≡ C
   same-value {C} c ν t s =
       let d = decoded-view v z ν t in
-      let same : Same (decodedValue a n m ν) C = record {
+      let same : Same (decodedValue a τ ν) C = record {
         states = sym (c .states);
         start = sym (c .start);
         propositions = sym (c .propositions);
@@ -76,11 +77,11 @@ module _ {a : Automaton} {n m : ℕ} (v : Valid a) (z : Dimensioned n m) where
       } in
       equal-values (decoded-valid v z ν t) (c .valid) same
 
-  pub found-decoded : (C : Automaton) → Found a n m C → (ν : Assignment) × Satisfies ν (base-file (view a) n m) × (decodedValue a n m ν ≡ C)
+  pub found-decoded : (C : Automaton) → Found a τ C → (ν : Assignment) × Satisfies ν (file a τ) × (decodedValue a τ ν ≡ C)
   found-decoded C f =
-      let (ν, s, same) = base-encodes (view a) n m (view-formed v) (z .n-some) .complete (view C) (equivalent f) tt in
+      let (ν, s, same) = named-encodes (view a) (named τ) (view-formed v) (z .n-some) .complete (view C) (equivalent f) (f .candidate .kind) in
       (ν, s, same-value (f .candidate) ν (satisfying-steps ν s) same)
 
   -- so the file can be satisfied if and only if there is such a candidate
-  pub satisfiable : ((ν : Assignment) × Satisfies ν (base-file (view a) n m)) ↔ ((C : Automaton) × Found a n m C)
-  satisfiable = (λ (ν, s). (decodedValue a n m ν, satisfying-found ν s), λ (C, f). (let (ν, s, e) = found-decoded C f in (ν, s)))
+  pub satisfiable : ((ν : Assignment) × Satisfies ν (file a τ)) ↔ ((C : Automaton) × Found a τ C)
+  satisfiable = (λ (ν, s). (decodedValue a τ ν, satisfying-found ν s), λ (C, f). (let (ν, s, e) = found-decoded C f in (ν, s)))

@@ -6,17 +6,18 @@ use Prim.Native.Nat.{ℕ, _/_, _%_, _≤_, _<_}
 use lib.Dec.{eqb}
 use lib.ListN.{length, getD}
 use Rattle.meaning.specs.Automata.{Aut}
-use Rattle.encoding.specs.Variables.{base}
 use Rattle.encoding.specs.Clauses.{marks-of, decoded}
+use Rattle.encoding.specs.Named.{taskFor}
+use Rattle.clause_sizes.specs.Targets.{named}
 use Rattle.clause_sizes.specs.declared.Sizes.{Sizes}
 use Rattle.clause_sizes.specs.Numbers.{counted, numberOf}
+use Rattle.clause_sizes.specs.Sizes.{targetOf}
 use Rattle.decode.specs.declared.cells.Cell.{Cell}
 use Rattle.decode.specs.Table.{entry}
 
--- the table by the sizes of a file and the entries of a reader
+-- the table by the sizes of a file and the values of a reader
 abbrev pub tableBy : Sizes → List ℕ → Aut
-tableBy z named =
-    decoded (base (counted z) (z .candidate .states) (z .candidate .sets)) (numberOf z) (λ v. eqb (getD named v 0) 1)
+tableBy z values = decoded (taskFor (counted z) (named (targetOf z))) (numberOf z) (λ v. eqb (getD values v 0) 1)
 
 abbrev pub InUse : Aut → ℕ → Type 0
 InUse C i = (i / 16 < C .states) × (i % 16 < C .letters)

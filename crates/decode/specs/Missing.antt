@@ -12,6 +12,7 @@ use Rattle.meaning.specs.TestLaws.{all-at, all-of, truth}
 use Rattle.automaton.specs.declared.Automaton.{Automaton}
 use Rattle.automaton.specs.Value.{letters}
 use Rattle.encoding.specs.Clauses.{Assignment}
+use Rattle.clause_sizes.specs.declared.Target.{Target}
 use Rattle.decode.specs.Table.{decodedTable, Steps, AllStep, LowestWithout}
 use Rattle.decode.specs.Value.{steps-lead, lead-steps}
 
@@ -26,24 +27,24 @@ first (suc k) f = go (first k f) (truth (f k))
     go (inl h) (inr e) = inr (k, omega arith, e, h)
     go (inr (i, g, e, h)) t = inr (i, omega arith, e, h)
 
-module _ (a : Automaton) (n m : ℕ) (ν : Assignment) where
+module _ (a : Automaton) (τ : Target) (ν : Assignment) where
   leads : ℕ → ℕ → Bool
-  leads q l = ltb (decodedTable a n m ν .step q l) n
+  leads q l = ltb (decodedTable a τ ν .step q l) (τ .states)
 
-  leads-steps : (q l : ℕ) → leads q l ≡ true → Steps a n m ν q l
+  leads-steps : (q l : ℕ) → leads q l ≡ true → Steps a τ ν q l
   unfolding leads
-  leads-steps q l e = lead-steps a n m ν q l (ltb-true _ _ e)
+  leads-steps q l e = lead-steps a τ ν q l (ltb-true _ _ e)
 
-  steps-leads : (q l : ℕ) → Steps a n m ν q l → leads q l ≡ true
+  steps-leads : (q l : ℕ) → Steps a τ ν q l → leads q l ≡ true
   unfolding leads
-  steps-leads q l t = lt-ltb _ _ (steps-lead a n m ν q l t)
+  steps-leads q l t = lt-ltb _ _ (steps-lead a τ ν q l t)
 
-  pub all-or-lowest : AllStep a n m ν ⊎ ((q l : ℕ) × LowestWithout a n m ν q l)
-  all-or-lowest = states (first n (λ q. all (letters a) (leads q)))
+  pub all-or-lowest : AllStep a τ ν ⊎ ((q l : ℕ) × LowestWithout a τ ν q l)
+  all-or-lowest = states (first (τ .states) (λ q. all (letters a) (leads q)))
     where
-      letter : (q : ℕ) → q < n → all (letters a) (leads q) ≡ false → ((p : ℕ) → p < q → all (letters a) (leads p) ≡ true)
+      letter : (q : ℕ) → q < τ .states → all (letters a) (leads q) ≡ false → ((p : ℕ) → p < q → all (letters a) (leads p) ≡ true)
           → ((i : ℕ) → i < letters a → leads q i ≡ true) ⊎ ((i : ℕ) × (i < letters a) × (leads q i ≡ false) × ((j : ℕ) → j < i → leads q j ≡ true))
-          → (q l : ℕ) × LowestWithout a n m ν q l
+          → (q l : ℕ) × LowestWithout a τ ν q l
       letter q hq e before (inl h) = absurd (true≢false (sym (all-of (letters a) (leads q) h) ∙ e))
       letter q hq e before (inr (l, hl, f, h)) = (
         q,
@@ -56,12 +57,12 @@ module _ (a : Automaton) (n m : ℕ) (ν : Assignment) where
         },
       )
         where
-          earlier : (p j : ℕ) → j < letters a → (p < q) ⊎ ((p ≡ q) × (j < l)) → Steps a n m ν p j
+          earlier : (p j : ℕ) → j < letters a → (p < q) ⊎ ((p ≡ q) × (j < l)) → Steps a τ ν p j
           earlier p j hj (inl g) = leads-steps p j (all-at (letters a) (leads p) (before p g) j hj)
           earlier p j hj (inr (d, g)) = leads-steps p j (ap (λ r. leads r j) d ∙ h j g)
 
-      states : ((q : ℕ) → q < n → all (letters a) (leads q) ≡ true)
-          ⊎ ((q : ℕ) × (q < n) × (all (letters a) (leads q) ≡ false) × ((p : ℕ) → p < q → all (letters a) (leads p) ≡ true))
-          → AllStep a n m ν ⊎ ((q l : ℕ) × LowestWithout a n m ν q l)
+      states : ((q : ℕ) → q < τ .states → all (letters a) (leads q) ≡ true)
+          ⊎ ((q : ℕ) × (q < τ .states) × (all (letters a) (leads q) ≡ false) × ((p : ℕ) → p < q → all (letters a) (leads p) ≡ true))
+          → AllStep a τ ν ⊎ ((q l : ℕ) × LowestWithout a τ ν q l)
       states (inl h) = inl (λ q l hq hl. leads-steps q l (all-at (letters a) (leads q) (h q hq) l hl))
       states (inr (q, hq, e, h)) = inr (letter q hq e h (first (letters a) (leads q)))

@@ -8,9 +8,10 @@ use lib.Dec.{ltb}
 use Rattle.meaning.specs.Automata.{Aut}
 use Rattle.automaton.specs.declared.Automaton.{Automaton}
 use Rattle.automaton.specs.Value.{rows, letters}
-use Rattle.automaton.specs.View.{view}
-use Rattle.encoding.specs.Variables.{step, base, base-number}
+use Rattle.encoding.specs.Variables.{step}
 use Rattle.encoding.specs.Clauses.{Assignment, marks-of, decoded}
+use Rattle.clause_sizes.specs.declared.Target.{Target}
+use Rattle.clause_sizes.specs.Targets.{task, numbers}
 
 -- ---- an automaton of `meaning` as a value
 
@@ -34,26 +35,26 @@ valueOf a C = record {
 -- ---- what is decoded
 
 -- "Decoding takes for each state and letter the lowest p whose step is true, with its marks." The definition of `encoding`, with the numbers
--- of the file for the reference, n and m.
-abbrev pub decodedTable : Automaton → ℕ → ℕ → Assignment → Aut
-decodedTable a n m ν = decoded (base (view a) n m) (base-number (view a) n m) ν
+-- of the file for the reference and the target.
+abbrev pub decodedTable : Automaton → Target → Assignment → Aut
+decodedTable a τ ν = decoded (task a τ) (numbers a τ) ν
 
-abbrev pub decodedValue : Automaton → ℕ → ℕ → Assignment → Automaton
-decodedValue a n m ν = valueOf a (decodedTable a n m ν)
+abbrev pub decodedValue : Automaton → Target → Assignment → Automaton
+decodedValue a τ ν = valueOf a (decodedTable a τ ν)
 
 -- ---- "no true step, lowest"
 
-module _ (a : Automaton) (n m : ℕ) (ν : Assignment) where
+module _ (a : Automaton) (τ : Target) (ν : Assignment) where
   -- q has a true step by l
   abbrev pub Steps : ℕ → ℕ → Type 0
-  Steps q l = (p : ℕ) × (p < n) × (ν (base-number (view a) n m (step q l p)) ≡ true)
+  Steps q l = (p : ℕ) × (p < τ .states) × (ν (numbers a τ (step q l p)) ≡ true)
 
   abbrev pub AllStep : Type 0
-  AllStep = (q l : ℕ) → q < n → l < letters a → Steps q l
+  AllStep = (q l : ℕ) → q < τ .states → l < letters a → Steps q l
 
   -- q and l are the lowest that have none: q is the lowest such state, and l its lowest such letter
   pub record LowestWithout (q l : ℕ) : Type 0 where
-    pub state-lt : q < n
+    pub state-lt : q < τ .states
     pub letter-lt : l < letters a
     pub no-step : ¬ Steps q l
     pub before : (p j : ℕ) → j < letters a → (p < q) ⊎ ((p ≡ q) × (j < l)) → Steps p j

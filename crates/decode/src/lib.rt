@@ -2,6 +2,7 @@
 use automaton::Automaton;
 use clause_sizes::Sized;
 use clause_sizes::Sizes;
+use clause_sizes::Target;
 use clause_sizes::measure;
 use compare::Comparison;
 use compare::compare;
@@ -11,10 +12,11 @@ use solver_text::Reader;
 ghost use mathlib.Core.Path.{_≡_};
 ghost use Rattle.automaton.specs.Value.{Valid};
 ghost use Rattle.compare.specs.Compared.{Room};
-ghost use Rattle.clause_sizes.specs.Sizes.{Dimensioned};
 ghost use Rattle.decode.specs.declared.Answer.the-variants.{Refused as RefusedWith};
 ghost use Rattle.decode.specs.Answers.{Decodes, ByVerdict, ByAssignment, ByComparison, said, found, without};
+ghost use Rattle.clause_sizes.specs.Targets.{Dimensioned};
 ghost use Rattle.clause_sizes.specs.Measured.{Measured};
+ghost use Rattle.clause_sizes.specs.Sizes.{targetOf};
 ghost use Rattle.decode.specs.Ready.{Comparable, candidate};
 
 mod cells;
@@ -39,13 +41,12 @@ pub struct Decoded {
 // that shows it is written into `prefix` and `cycle`.
 pub fn decode(
     reference: Automaton,
-    n: usize,
-    m: usize,
+    target: Target,
     reader: Reader,
     prefix: &mut [u8],
     cycle: &mut [u8],
 ) -> Decoded
-    ensures { λ r. ⌜ Decodes (now (prefix .entry)) (now (prefix .exit)) (now (cycle .entry)) (now (cycle .exit)) r reference n m reader ⌝ }
+    ensures { λ r. ⌜ Decodes (now (prefix .entry)) (now (prefix .exit)) (now (cycle .entry)) (now (cycle .exit)) r reference target reader ⌝ }
 {
     if prefix.len() < Comparison::PREFIX {
         return refused(Refusal::Short(Comparison::PREFIX, prefix.len()));
@@ -53,10 +54,10 @@ pub fn decode(
     if cycle.len() < Comparison::LOOP {
         return refused(Refusal::Short(Comparison::LOOP, cycle.len()));
     }
-    let reply = reader.finish(reference, n, m);
+    let reply = reader.finish(reference, target);
     let answer = reply.answer;
     match answer {
-        solver_text::Answer::Accepted => by_verdict(reference, n, m, reply.reader, prefix, cycle),
+        solver_text::Answer::Accepted => by_verdict(reference, target, reply.reader, prefix, cycle),
         solver_text::Answer::Refused(refusal) => refused(refusal),
     }
 }
@@ -64,20 +65,19 @@ pub fn decode(
 // The answer to a text that is in form.
 fn by_verdict(
     reference: Automaton,
-    n: usize,
-    m: usize,
+    target: Target,
     held: Reader,
     prefix: &mut [u8],
     cycle: &mut [u8],
 ) -> Decoded
     requires { ⌜ Room (now prefix) (now cycle) ⌝ }
-    ensures { λ r. ⌜ (Valid reference → Dimensioned n m → ByVerdict (now (prefix .entry)) (now (prefix .exit)) (now (cycle .entry)) (now (cycle .exit)) r reference n m held) ⌝ }
+    ensures { λ r. ⌜ (Valid reference → Dimensioned target → ByVerdict (now (prefix .entry)) (now (prefix .exit)) (now (cycle .entry)) (now (cycle .exit)) r reference target held) ⌝ }
 {
     let scan = held.scan;
     let verdict = scan.verdict;
     match verdict {
         Verdict::Unstated => refused(Refusal::SolverForm(scan.at as usize)),
-        Verdict::Satisfiable => by_assignment(reference, n, m, held, prefix, cycle),
+        Verdict::Satisfiable => by_assignment(reference, target, held, prefix, cycle),
         Verdict::Unsatisfiable => without(Answer::None),
         Verdict::Unknown => without(Answer::Unknown),
     }
@@ -86,16 +86,15 @@ fn by_verdict(
 // The answer to an assignment.
 fn by_assignment(
     reference: Automaton,
-    n: usize,
-    m: usize,
+    target: Target,
     held: Reader,
     prefix: &mut [u8],
     cycle: &mut [u8],
 ) -> Decoded
     requires { ⌜ Room (now prefix) (now cycle) ⌝ }
-    ensures { λ r. ⌜ (Valid reference → Dimensioned n m → ByAssignment (now (prefix .entry)) (now (prefix .exit)) (now (cycle .entry)) (now (cycle .exit)) r reference n m (said held)) ⌝ }
+    ensures { λ r. ⌜ (Valid reference → Dimensioned target → ByAssignment (now (prefix .entry)) (now (prefix .exit)) (now (cycle .entry)) (now (cycle .exit)) r reference target (said held)) ⌝ }
 {
-    let sized = measure(reference, n, m);
+    let sized = measure(reference, target);
     match sized {
         Sized::Of(z) => by_table(reference, z, held, prefix, cycle),
         Sized::Refused(refusal) => refused(refusal),
@@ -111,7 +110,7 @@ fn by_table(
     cycle: &mut [u8],
 ) -> Decoded
     requires { ⌜ Measured reference z × Room (now prefix) (now cycle) ⌝ }
-    ensures { λ r. ⌜ ByAssignment (now (prefix .entry)) (now (prefix .exit)) (now (cycle .entry)) (now (cycle .exit)) r reference (z .candidate .states) (z .candidate .sets) (said held) ⌝ }
+    ensures { λ r. ⌜ ByAssignment (now (prefix .entry)) (now (prefix .exit)) (now (cycle .entry)) (now (cycle .exit)) r reference (targetOf z) (said held) ⌝ }
 {
     let named = held.named;
     let mut destinations = [0u8; Automaton::CELLS];

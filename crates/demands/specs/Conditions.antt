@@ -15,6 +15,8 @@ use Rattle.refusals.specs.Refused.{row}
 use Rattle.automaton.specs.Value.{Valid}
 use Rattle.automaton.specs.View.{view}
 use Rattle.encoding.specs.Clauses.{Assignment}
+use Rattle.clause_sizes.specs.declared.Target.{Target}
+use Rattle.clause_sizes.specs.Targets.{Dimensioned}
 use Rattle.compare.specs.declared.Comparison.{Comparison}
 use Rattle.compare.specs.declared.Comparison.the-variants as comparison
 use Rattle.compare.specs.Compared.{returned as comparison-said, prefixRoom, loopRoom}
@@ -22,7 +24,6 @@ use Rattle.hoa_text.specs.Reading.{reading, textLimit}
 use Rattle.hoa_text.specs.Tokens.{tokens}
 use Rattle.hoa_write.specs.Answer.{hoaRoom}
 use Rattle.hoa_read.specs.Told.{fault as hoa-said}
-use Rattle.clause_sizes.specs.Sizes.{Dimensioned}
 use Rattle.clause_step.specs.Step.{last-position}
 use Rattle.solver_text.specs.declared.Reader.{Reader}
 use Rattle.solver_text.specs.declared.Reply.{Reply}
@@ -86,45 +87,45 @@ pub record JudgesComparison (a b : Automaton) (prefix prefix-after loop loop-aft
 
 -- ---- the header, the clause step, the clause line and the batch of lines
 
-abbrev pub to-count : (a : Automaton) (n m : ℕ) → List Condition
-to-count a n m = asks (Valid a) 4 0 0 ∷ asks (Dimensioned n m) 8 n m ∷ []
+abbrev pub to-count : (a : Automaton) (τ : Target) → List Condition
+to-count a τ = asks (Valid a) 4 0 0 ∷ asks (Dimensioned τ) 8 (τ .states) (τ .sets) ∷ []
 
-abbrev pub to-hand-out : (needed given : ℕ) (a : Automaton) (n m position : ℕ) → List Condition
-to-hand-out needed given a n m position =
-    asks (needed ≤ given) 13 needed given ∷ asks (Valid a × (position ≤ last-position)) 4 0 0 ∷ asks (Dimensioned n m) 8 n m ∷ []
+abbrev pub to-hand-out : (needed given : ℕ) (a : Automaton) (τ : Target) (position : ℕ) → List Condition
+to-hand-out needed given a τ position =
+    asks (needed ≤ given) 13 needed given ∷ asks (Valid a × (position ≤ last-position)) 4 0 0 ∷ asks (Dimensioned τ) 8 (τ .states) (τ .sets) ∷ []
 
 -- ---- the reader of solver text: what it asks before it reads
 
-abbrev pub to-begin : (a : Automaton) (n m : ℕ) (r : Reader) → List Condition
-to-begin a n m r = asks (Valid a × InRange r) 4 0 0 ∷ asks (Dimensioned n m) 8 n m ∷ []
+abbrev pub to-begin : (a : Automaton) (τ : Target) (r : Reader) → List Condition
+to-begin a τ r = asks (Valid a × InRange r) 4 0 0 ∷ asks (Dimensioned τ) 8 (τ .states) (τ .sets) ∷ []
 
 -- A call with the state r is judged before it reads, and then by 9 and 10, as reading gives them. 4 and 8 leave the state as it was; else it is what was read.
-pub record JudgesReading (a : Automaton) (n m : ℕ) (r : Reader) (read reply : Reply) : Type 0 where
-  pub judged : Judged (to-begin a n m r ++ (no-fault (solution-said (read .answer)) ∷ [])) (solution-said (reply .answer)) (Unit {0})
-  pub kept : (c : Code) → TurnedDown (to-begin a n m r) c → reply .reader ≡ r
-  pub moved : Accepted (to-begin a n m r) → reply .reader ≡ read .reader
+pub record JudgesReading (a : Automaton) (τ : Target) (r : Reader) (read reply : Reply) : Type 0 where
+  pub judged : Judged (to-begin a τ r ++ (no-fault (solution-said (read .answer)) ∷ [])) (solution-said (reply .answer)) (Unit {0})
+  pub kept : (c : Code) → TurnedDown (to-begin a τ r) c → reply .reader ≡ r
+  pub moved : Accepted (to-begin a τ r) → reply .reader ≡ read .reader
 
 -- ---- the decoder: the buffers, the reader's conditions, 9 and 10 of the text that it holds, and then what the text states. There is no 14: the table has the
 -- reference's propositions.
 
-module _ (a : Automaton) (n m : ℕ) (r : Reader) where
+module _ (a : Automaton) (τ : Target) (r : Reader) where
   -- the verdict of the text, and the assignment that it states
   abbrev pub verdict-of : Verdict
-  verdict-of = whole a n m r .reader .scan .verdict
+  verdict-of = whole a τ r .reader .scan .verdict
 
   abbrev pub stated-by : Assignment
-  stated-by = said (whole a n m r .reader)
+  stated-by = said (whole a τ r .reader)
 
   -- state and letter are those of 11, p and l the lengths of 12's word. "No `s` line" is 9 also where no text leaves a reader so.
   abbrev pub to-decode : (prefix loop state letter p l : ℕ) → List Condition
   to-decode prefix loop state letter p l =
       asks (prefixRoom ≤ prefix) 13 prefixRoom prefix
       ∷ asks (loopRoom ≤ loop) 13 loopRoom loop
-      ∷ to-begin a n m r
-      ++ (no-fault (solution-said (whole a n m r .answer))
-      ∷ asks (verdict-of ≢ Unstated) 9 (whole a n m r .reader .scan .at) 0
-      ∷ asks (verdict-of ≡ Satisfiable → AllStep a n m stated-by) 11 state letter
-      ∷ asks (verdict-of ≡ Satisfiable → Agree (view (decodedValue a n m stated-by)) (view a)) 12 p l
+      ∷ to-begin a τ r
+      ++ (no-fault (solution-said (whole a τ r .answer))
+      ∷ asks (verdict-of ≢ Unstated) 9 (whole a τ r .reader .scan .at) 0
+      ∷ asks (verdict-of ≡ Satisfiable → AllStep a τ stated-by) 11 state letter
+      ∷ asks (verdict-of ≡ Satisfiable → Agree (view (decodedValue a τ stated-by)) (view a)) 12 p l
       ∷ [])
 
 -- the answer x to a text that is accepted, by its verdict, where C is the table that is decoded
@@ -135,19 +136,19 @@ Answers Unsatisfiable C x = x ≡ without decoding.None
 Answers Unknown C x = x ≡ without decoding.Unknown
 
 -- The decoder is judged by its conditions. State and letter are 11's, "no true step, lowest"; x and y are 12's word, and empty on every other answer.
-pub record JudgesDecoding (a : Automaton) (n m : ℕ) (r : Reader) (prefix prefix-after loop loop-after : List ℕ) (answer : Decoded) : Type 0 where
+pub record JudgesDecoding (a : Automaton) (τ : Target) (r : Reader) (prefix prefix-after loop loop-after : List ℕ) (answer : Decoded) : Type 0 where
   pub state : ℕ
   pub letter : ℕ
   pub x : List ℕ
   pub y : List ℕ
-  pub judged : Judged (to-decode a n m r (length prefix) (length loop) state letter (length x) (length y)) (decoder-said (answer .answer))
+  pub judged : Judged (to-decode a τ r (length prefix) (length loop) state letter (length x) (length y)) (decoder-said (answer .answer))
       (Begins x prefix prefix-after × Begins y loop loop-after)
-  pub lowest : ¬ AllStep a n m (stated-by a n m r) → LowestWithout a n m (stated-by a n m r) state letter
+  pub lowest : ¬ AllStep a τ (stated-by a τ r) → LowestWithout a τ (stated-by a τ r) state letter
   pub empty : (c : Code) → decoder-said (answer .answer) ≡ some c → c .number ≢ 12 → (x ≡ []) × (y ≡ [])
   -- where 12 is said, it is the first word that shows that the table that is decoded and the reference differ
-  pub shown : (c : Code) → decoder-said (answer .answer) ≡ some c → c .number ≡ 12 → FirstWord (view (decodedValue a n m (stated-by a n m r))) (view a) x y
+  pub shown : (c : Code) → decoder-said (answer .answer) ≡ some c → c .number ≡ 12 → FirstWord (view (decodedValue a τ (stated-by a τ r))) (view a) x y
   pub accepted : decoder-said (answer .answer) ≡ none
-      → Answers (verdict-of a n m r) (decodedValue a n m (stated-by a n m r)) answer × (prefix-after ≡ prefix) × (loop-after ≡ loop)
+      → Answers (verdict-of a τ r) (decodedValue a τ (stated-by a τ r)) answer × (prefix-after ≡ prefix) × (loop-after ≡ loop)
 
 -- ---- the search: "A finished search, after 13 and 4, says so", and asks nothing more of a table
 

@@ -21,7 +21,8 @@ use Rattle.automaton.specs.Value.{Valid}
 use Rattle.automaton.specs.View.{view}
 use Rattle.automaton.specs.ViewLaws.{view-comparable}
 use Rattle.automaton.specs.Meant.{fits-valid, valid-fits}
-use Rattle.clause_sizes.specs.Sizes.{Dimensioned}
+use Rattle.clause_sizes.specs.declared.Target.{Target}
+use Rattle.clause_sizes.specs.Targets.{Dimensioned}
 use Rattle.solver_text.specs.declared.Reader.{Reader}
 use Rattle.solver_text.specs.Calls.{InRange}
 use Rattle.demands.specs.Judgement.{Condition, TurnedDown, Accepted, Judged}
@@ -108,10 +109,10 @@ valid-decided a =
     (Dec·and (ℕ-discrete (length (a .destinations)) 256) (ℕ-discrete (length (a .marks)) 256)))
     (truth-decided (fits a)))
 
-pub dimensioned-decided : (n m : ℕ) → Dec (Dimensioned n m)
-dimensioned-decided n m =
+pub dimensioned-decided : (τ : Target) → Dec (Dimensioned τ)
+dimensioned-decided τ =
     Dec·of-iff (λ ((s, l), k). record { n-some = s; n-le = l; m-le = k }, λ d. ((d .n-some, d .n-le), d .m-le))
-    (Dec·and (Dec·and (decLe 1 n) (decLe n 8)) (decLe m 4))
+    (Dec·and (Dec·and (decLe 1 (τ .states)) (decLe (τ .states) 8)) (decLe (τ .sets) 4))
 
 pub in-range-decided : (r : Reader) → Dec (InRange r)
 in-range-decided r =

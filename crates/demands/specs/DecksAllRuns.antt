@@ -19,9 +19,7 @@ use Rattle.refusals.specs.Refused.{row}
 use Rattle.automaton.specs.Value.{Valid}
 use Rattle.automaton.specs.View.{view}
 use Rattle.automaton.specs.ViewLaws.{view-formed}
-use Rattle.encoding.specs.Variables.{base, base-number}
-use Rattle.encoding.specs.Clauses.{each, only, set-of, not-marks, totality, initial, successor, extension, closure, exactly-one, group₁, group₂, group₃, group₄, file, base-file, Assignment, Satisfies, destination}
-use Rattle.clause_sizes.specs.Sizes.{Dimensioned}
+use Rattle.encoding.specs.Clauses.{each, only, set-of, not-marks, totality, initial, successor, extension, closure, exactly-one, group₁, group₂, group₃, group₄, file as task-file, Assignment, Satisfies, destination}
 use Rattle.solver_scan.specs.declared.Verdict.the-variants.{Satisfiable}
 use Rattle.solver_scan.specs.SolverText.{Seen, gives, blank, digit, digit19, settled, judged, outcome}
 use Rattle.solver_agreement.specs.Assignment.{asserted}
@@ -29,6 +27,7 @@ use Rattle.solver_agreement.specs.Table.{table}
 use Rattle.decode.specs.Table.{decodedValue, AllStep, LowestWithout}
 use Rattle.decode.specs.Answers.{ByComparison, found}
 use Rattle.automaton.specs.Bytes.{bytes}
+use Rattle.clause_sizes.specs.Targets.{Dimensioned, task, numbers, file}
 use Rattle.hoa_text.specs.Grammar as grammar
 use Rattle.hoa_text.specs.Labels.{deepest}
 use Rattle.hoa_text.specs.Header.{itemRead}
@@ -36,7 +35,7 @@ use Rattle.hoa_text.specs.Body.{bodyRead}
 use Rattle.hoa_text.specs.Reading.{read}
 use Rattle.hoa_text.specs.Accepted.{accepted-valid}
 use Rattle.demands.specs.DecksWords as words
-use Rattle.demands.specs.DecksWords.{Counts, Stating, DecodedAs, DecoderRefuses, SolverTextRefused}
+use Rattle.demands.specs.DecksWords.{target, Counts, Stating, DecodedAs, DecoderRefuses, SolverTextRefused}
 use Rattle.demands.specs.DecksSolver.{by-assignment, text-refused, stating}
 use Rattle.demands.specs.DecksTested.{tested-satisfies}
 
@@ -56,8 +55,8 @@ pub all-runs-read : read (bytes "HOA: v1 States: 1 Start: 0 Acceptance: 0 t --BO
 unfolding read itemRead bodyRead deepest
 all-runs-read = refl
 
-pub all-runs-counts : Counts all-runs 1 0 2 4
-unfolding each only set-of not-marks totality initial successor extension closure exactly-one group₁ group₂ group₃ group₄ file xor
+pub all-runs-counts : Counts all-runs (target 1 0) 2 4
+unfolding each only set-of not-marks totality initial successor extension closure exactly-one group₁ group₂ group₃ group₄ task-file xor
 all-runs-counts = record { last-variable = refl; count = refl }
 
 -- ---- solver texts
@@ -65,7 +64,7 @@ all-runs-counts = record { last-variable = refl; count = refl }
 valid : Valid all-runs
 valid = accepted-valid _ all-runs-read
 
-sizes : Dimensioned 1 0
+sizes : Dimensioned (target 1 0)
 sizes = record { n-some = omega arith; n-le = omega arith; m-le = omega arith }
 
 -- the literals named, the last one first
@@ -80,19 +79,19 @@ one-two : outcome 2 1 (bytes "s SATISFIABLE\nv 1 2 0") ≡ gives (naming (pos 2 
 unfolding outcome blank digit digit19 settled judged
 one-two = refl
 
-pub states-satisfying : Stating all-runs 1 0 (bytes "s SATISFIABLE\nv 1 2 0") (λ ν. Satisfies ν (base-file (view all-runs) 1 0))
-unfolding each only set-of not-marks totality initial successor extension closure exactly-one group₁ group₂ group₃ group₄ file xor
-states-satisfying = let ν : Assignment = λ k. asserted k (pos 2 ∷ pos 1 ∷ []) in (ν, stating one-two refl, tested-satisfies ν (base-file (view all-runs) 1 0) refl)
+pub states-satisfying : Stating all-runs (target 1 0) (bytes "s SATISFIABLE\nv 1 2 0") (λ ν. Satisfies ν (file all-runs (target 1 0)))
+unfolding each only set-of not-marks totality initial successor extension closure exactly-one group₁ group₂ group₃ group₄ task-file xor
+states-satisfying = let ν : Assignment = λ k. asserted k (pos 2 ∷ pos 1 ∷ []) in (ν, stating one-two refl, tested-satisfies ν (file all-runs (target 1 0)) refl)
 
-pub all-runs-some : words.Satisfiable all-runs 1 0
+pub all-runs-some : words.Satisfiable all-runs (target 1 0)
 all-runs-some = let (ν, t, s) = states-satisfying in (ν, s)
 
 -- the one step is true, and the table is the reference
-one-two-steps : AllStep all-runs 1 0 (keeping (pos 2 ∷ pos 1 ∷ []))
+one-two-steps : AllStep all-runs (target 1 0) (keeping (pos 2 ∷ pos 1 ∷ []))
 unfolding table
 one-two-steps q l hq hl = rw (lt-one hq, lt-one hl) (0, omega arith, refl)
 
-one-two-table : decodedValue all-runs 1 0 (keeping (pos 2 ∷ pos 1 ∷ [])) ≡ all-runs
+one-two-table : decodedValue all-runs (target 1 0) (keeping (pos 2 ∷ pos 1 ∷ [])) ≡ all-runs
 unfolding table each set-of destination
 one-two-table = refl
 
@@ -100,7 +99,7 @@ itself : Agree (view all-runs) (view all-runs)
 unfolding CyclesAgree
 itself = let F = view-formed valid in cycles→agree (record { formed-A = F; formed-B = F; same-letters = refl }) (λ x y ox oy ne ca cb. refl)
 
-pub one-two-decoded : DecodedAs all-runs 1 0 (bytes "s SATISFIABLE\nv 1 2 0") (found all-runs) none
+pub one-two-decoded : DecodedAs all-runs (target 1 0) (bytes "s SATISFIABLE\nv 1 2 0") (found all-runs) none
 one-two-decoded q h prefix prefix-after loop loop-after hp hl x d =
     let t = by-assignment valid sizes h hp hl d one-two refl .table one-two-steps in
     subst (λ C. ByComparison prefix prefix-after loop loop-after x all-runs C) one-two-table t .same itself
@@ -109,11 +108,11 @@ minus-one : outcome 2 1 (bytes "s SATISFIABLE\nv -1 2 0") ≡ gives (naming (pos
 unfolding outcome blank digit digit19 settled judged
 minus-one = refl
 
-pub states-no-step : Stating all-runs 1 0 (bytes "s SATISFIABLE\nv -1 2 0") (λ ν. destination (base (view all-runs) 1 0) (base-number (view all-runs) 1 0) ν 0 0 ≡ 1)
+pub states-no-step : Stating all-runs (target 1 0) (bytes "s SATISFIABLE\nv -1 2 0") (λ ν. destination (task all-runs (target 1 0)) (numbers all-runs (target 1 0)) ν 0 0 ≡ 1)
 unfolding destination
 states-no-step = (λ k. asserted k (pos 2 ∷ negsuc 0 ∷ []), stating minus-one refl, refl)
 
-minus-one-lowest : LowestWithout all-runs 1 0 (keeping (pos 2 ∷ negsuc 0 ∷ [])) 0 0
+minus-one-lowest : LowestWithout all-runs (target 1 0) (keeping (pos 2 ∷ negsuc 0 ∷ [])) 0 0
 unfolding table
 minus-one-lowest = record {
   state-lt = omega arith;
@@ -122,14 +121,14 @@ minus-one-lowest = record {
   before = λ p j hj. ⊎-elim (λ h. absurd (omega arith)) (λ h. absurd (omega arith));
 }
 
-pub minus-one-decoded : DecoderRefuses all-runs 1 0 (bytes "s SATISFIABLE\nv -1 2 0") (row 11 0 0)
+pub minus-one-decoded : DecoderRefuses all-runs (target 1 0) (bytes "s SATISFIABLE\nv -1 2 0") (row 11 0 0)
 minus-one-decoded =
     (NoStep 0 0, refl, λ q h prefix prefix-after loop loop-after hp hl x d. by-assignment valid sizes h hp hl d minus-one refl .no-step 0 0 minus-one-lowest)
 
-pub one-three-refused : SolverTextRefused all-runs 1 0 (bytes "s SATISFIABLE\nv 1 3 0") (row 10 18 0)
+pub one-three-refused : SolverTextRefused all-runs (target 1 0) (bytes "s SATISFIABLE\nv 1 3 0") (row 10 18 0)
 unfolding outcome blank digit digit19 settled judged
 one-three-refused = text-refused valid sizes {f = Literal 18} refl
 
-pub one-one-refused : SolverTextRefused all-runs 1 0 (bytes "s SATISFIABLE\nv 1 1 0") (row 10 18 0)
+pub one-one-refused : SolverTextRefused all-runs (target 1 0) (bytes "s SATISFIABLE\nv 1 1 0") (row 10 18 0)
 unfolding outcome blank digit digit19 settled judged
 one-one-refused = text-refused valid sizes {f = Literal 18} refl

@@ -10,10 +10,10 @@ use Rattle.meaning.specs.ClosedLoop.{CyclesAgree}
 use Rattle.meaning.specs.CycleLemma.{agree→cycles}
 use Rattle.automaton.specs.View.{view}
 use Rattle.automaton.specs.ViewLaws.{view-formed}
-use Rattle.encoding.specs.Variables.{base, base-number}
-use Rattle.encoding.specs.Clauses.{each, only, set-of, not-marks, totality, initial, successor, extension, closure, exactly-one, group₁, group₂, group₃, group₄, file, base-file, decoded}
-use Rattle.encoding.specs.Base.{base-encodes}
+use Rattle.encoding.specs.Clauses.{each, only, set-of, not-marks, totality, initial, successor, extension, closure, exactly-one, group₁, group₂, group₃, group₄, file as task-file, decoded}
+use Rattle.encoding.specs.NamedFile.{named-encodes}
 use Rattle.automaton.specs.Bytes.{bytes}
+use Rattle.clause_sizes.specs.Targets.{named, task, numbers, file}
 use Rattle.hoa_text.specs.Grammar.{gives}
 use Rattle.hoa_text.specs.Labels.{deepest}
 use Rattle.hoa_text.specs.Header.{itemRead}
@@ -21,7 +21,7 @@ use Rattle.hoa_text.specs.Body.{bodyRead}
 use Rattle.hoa_text.specs.Reading.{read}
 use Rattle.hoa_text.specs.Accepted.{accepted-valid}
 use Rattle.hoa_text.specs.Examples.{both-for-ever}
-use Rattle.demands.specs.DecksWords.{Counts, Satisfiable}
+use Rattle.demands.specs.DecksWords.{target, Counts, Satisfiable}
 use Rattle.demands.specs.DecksTested.{tested-satisfies}
 
 pub both-read : read
@@ -31,29 +31,29 @@ pub both-read : read
 unfolding read itemRead bodyRead deepest
 both-read = refl
 
-pub counts-one-one : Counts both-for-ever 1 1 16 103
-unfolding each only set-of not-marks totality initial successor extension closure exactly-one group₁ group₂ group₃ group₄ file xor
+pub counts-one-one : Counts both-for-ever (target 1 1) 16 103
+unfolding each only set-of not-marks totality initial successor extension closure exactly-one group₁ group₂ group₃ group₄ task-file xor
 counts-one-one = record { last-variable = refl; count = refl }
 
-pub counts-two-one : Counts both-for-ever 2 1 64 657
-unfolding each only set-of not-marks totality initial successor extension closure exactly-one group₁ group₂ group₃ group₄ file xor
+pub counts-two-one : Counts both-for-ever (target 2 1) 64 657
+unfolding each only set-of not-marks totality initial successor extension closure exactly-one group₁ group₂ group₃ group₄ task-file xor
 counts-two-one = record { last-variable = refl; count = refl }
 
-pub counts-one-two : Counts both-for-ever 1 2 28 391
-unfolding each only set-of not-marks totality initial successor extension closure exactly-one group₁ group₂ group₃ group₄ file xor
+pub counts-one-two : Counts both-for-ever (target 1 2) 28 391
+unfolding each only set-of not-marks totality initial successor extension closure exactly-one group₁ group₂ group₃ group₄ task-file xor
 counts-one-two = record { last-variable = refl; count = refl }
 
 -- ---- some: the variables that are true, as one number whose binary digit k is that of variable k
 
 -- two states: one waits for a, the other for b
-pub some-two-one : Satisfiable both-for-ever 2 1
-unfolding each only set-of not-marks totality initial successor extension closure exactly-one group₁ group₂ group₃ group₄ file xor
-some-two-one = let ν = has 18987480639357367474 in (ν, tested-satisfies ν (base-file (view both-for-ever) 2 1) refl)
+pub some-two-one : Satisfiable both-for-ever (target 2 1)
+unfolding each only set-of not-marks totality initial successor extension closure exactly-one group₁ group₂ group₃ group₄ task-file xor
+some-two-one = let ν = has 18987480639357367474 in (ν, tested-satisfies ν (file both-for-ever (target 2 1)) refl)
 
 -- two sets: the reference itself
-pub some-one-two : Satisfiable both-for-ever 1 2
-unfolding each only set-of not-marks totality initial successor extension closure exactly-one group₁ group₂ group₃ group₄ file xor
-some-one-two = let ν = has 277101726 in (ν, tested-satisfies ν (base-file (view both-for-ever) 1 2) refl)
+pub some-one-two : Satisfiable both-for-ever (target 1 2)
+unfolding each only set-of not-marks totality initial successor extension closure exactly-one group₁ group₂ group₃ group₄ task-file xor
+some-one-two = let ν = has 277101726 in (ν, tested-satisfies ν (file both-for-ever (target 1 2)) refl)
 
 -- ---- none: with one state and one set the table would have to accept 1 2 1 2 .. without accepting 1 1 .. or 2 2 ..
 
@@ -62,12 +62,12 @@ no-mark true b e f g = true≢false e
 no-mark false true e f g = true≢false f
 no-mark false false e f g = true≢false (sym g)
 
-pub none-one-one : ¬ Satisfiable both-for-ever 1 1
+pub none-one-one : ¬ Satisfiable both-for-ever (target 1 1)
 unfolding CyclesAgree
 none-one-one (ν, s) =
-    let C = decoded (base (view both-for-ever) 1 1) (base-number (view both-for-ever) 1 1) ν in
+    let C = decoded (task both-for-ever (target 1 1)) (numbers both-for-ever (target 1 1)) ν in
     let F = view-formed (accepted-valid _ both-read) in
-    let (e, k) = base-encodes (view both-for-ever) 1 1 F (omega arith) .sound ν s in
+    let (e, k) = named-encodes (view both-for-ever) (named (target 1 1)) F (omega arith) .sound ν s in
     let c = agree→cycles (record { formed-A = e .candidate .formed; formed-B = F; same-letters = refl }) (e .agrees) in
     let to-0 : (l : ℕ) → l < 4 → C .step 0 l ≡ 0 = λ l h. lt-one (e .candidate .formed .step-lt 0 l (omega arith) h) in
     let h₁ : C .step 0 1 ≡ 0 = to-0 1 (omega arith) in

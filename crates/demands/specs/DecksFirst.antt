@@ -8,12 +8,12 @@ use lib.IntN.{negsuc}
 use lib.ListN.{length}
 use Rattle.automaton.specs.declared.Automaton.{Automaton}
 use Rattle.automaton.specs.Value.{Valid}
-use Rattle.automaton.specs.View.{view}
-use Rattle.encoding.specs.Variables.{base-variables}
-use Rattle.encoding.specs.Clauses.{each, only, set-of, not-marks, totality, initial, successor, extension, closure, exactly-one, group₁, group₂, group₃, group₄, file, base-file}
+use Rattle.encoding.specs.Clauses.{each, only, set-of, not-marks, totality, initial, successor, extension, closure, exactly-one, group₁, group₂, group₃, group₄, file as task-file}
 use Rattle.encoding.specs.Satisfaction.{no-literal, one-literal, premise}
 use Rattle.decimal.specs.Decimal.{decimal}
-use Rattle.clause_sizes.specs.Sizes.{Dimensioned, outside, dimensions}
+use Rattle.clause_sizes.specs.declared.Target.{Target}
+use Rattle.clause_sizes.specs.Targets.{Dimensioned, last, file}
+use Rattle.clause_sizes.specs.Sizes.{outside, dimensions}
 use Rattle.clause_header.specs.declared.Totals.{Totals}
 use Rattle.clause_header.specs.declared.Totals.the-variants.{Of, Refused}
 use Rattle.clause_header.specs.Header.{Headed}
@@ -28,21 +28,21 @@ use Rattle.hoa_text.specs.Reading.{read}
 use Rattle.hoa_text.specs.Accepted.{accepted-valid}
 use Rattle.hoa_text.specs.Examples.{one-state}
 use Rattle.console_report.specs.Lines.{headerLine}
-use Rattle.demands.specs.DecksWords.{Satisfiable, headerText, Prints}
+use Rattle.demands.specs.DecksWords.{target, Satisfiable, headerText, Prints}
 
 -- ---- what the calls write is the text of the file
-module _ {a : Automaton} {n m : ℕ} (v : Valid a) (d : Dimensioned n m) where
+module _ {a : Automaton} {τ : Target} (v : Valid a) (d : Dimensioned τ) where
   abbrev counted : List ℕ
-  counted = headerLine (base-variables (view a) n m) (length (base-file (view a) n m))
+  counted = headerLine (last a τ) (length (file a τ))
 
-  totals-text : (t : Totals) → Headed a n m t → headerText t ≡ counted
+  totals-text : (t : Totals) → Headed a τ t → headerText t ≡ counted
   totals-text (Of variables clauses) (w, e, (p, q)) = ap₂ headerLine p q
   totals-text (Refused f) (outside w) = absurd (w v)
   totals-text (Refused f) (dimensions w e) = absurd (e d)
 
-  prints : {text : List ℕ} → counted ++ linesText (base-file (view a) n m) ≡ text → Prints a n m text
+  prints : {text : List ℕ} → counted ++ linesText (file a τ) ≡ text → Prints a τ text
   prints e = record {
-    file = e;
+    text-is = e;
     calls = λ t h cs k c i g. ap₂ _++_ (totals-text t h) (lines-out v d cs k .whole c i g) ∙ e;
   }
 
@@ -52,13 +52,13 @@ pub first-read : read (bytes "HOA: v1 States: 1 Start: 0 Acceptance: 1 Inf(0) --
 unfolding read itemRead bodyRead deepest
 first-read = refl
 
-pub first-prints : Prints one-state 1 0 (bytes "p cnf 3 6\n1 0\n2 0\n-2 -1 2 0\n-2 -1 2 0\n-3 -1 3 0\n-2 -1 0\n")
-unfolding each only set-of not-marks totality initial successor extension closure exactly-one group₁ group₂ group₃ group₄ file xor decimal
+pub first-prints : Prints one-state (target 1 0) (bytes "p cnf 3 6\n1 0\n2 0\n-2 -1 2 0\n-2 -1 2 0\n-3 -1 3 0\n-2 -1 0\n")
+unfolding each only set-of not-marks totality initial successor extension closure exactly-one group₁ group₂ group₃ group₄ task-file xor decimal
 first-prints = prints (accepted-valid _ first-read) (record { n-some = omega arith; n-le = omega arith; m-le = omega arith }) refl
 
 -- the clauses `1`, `2` and `-2 -1` cannot hold together
-pub first-none : ¬ Satisfiable one-state 1 0
-unfolding each only set-of not-marks totality initial successor extension closure exactly-one group₁ group₂ group₃ group₄ file xor
+pub first-none : ¬ Satisfiable one-state (target 1 0)
+unfolding each only set-of not-marks totality initial successor extension closure exactly-one group₁ group₂ group₃ group₄ task-file xor
 first-none (ν, s) =
     let one = one-literal ν 1 .0 (s _ (List·Memᴰ·head refl)) in
     let two = one-literal ν 2 .0 (s _ (List·Memᴰ·tail (List·Memᴰ·head refl))) in

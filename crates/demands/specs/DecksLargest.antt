@@ -1,7 +1,7 @@
 -- The largest sizes: the bound of V for every file, and that it is met.
 use mathlib.Core.Path.{_≡_, refl}
 use mathlib.Core.List.{_∷_, _++_}
-use Prim.Native.Nat.{ℕ, _≤_}
+use Prim.Native.Nat.{_≤_}
 use lib.ListN.{replicate}
 use Rattle.automaton.specs.declared.Automaton.{Automaton}
 use Rattle.automaton.specs.Tests.{fits, passes}
@@ -9,14 +9,15 @@ use Rattle.automaton.specs.Value.{Valid}
 use Rattle.automaton.specs.View.{view}
 use Rattle.automaton.specs.Letters.{letters-le}
 use Rattle.automaton.specs.Meant.{fits-valid}
-use Rattle.encoding.specs.Variables.{base-variables}
-use Rattle.clause_sizes.specs.Sizes.{Dimensioned}
+use Rattle.clause_sizes.specs.declared.Target.{Target}
+use Rattle.clause_sizes.specs.Targets.{Dimensioned, last, named}
 use Rattle.clause_line.specs.LineLength.{variables-le}
+use Rattle.demands.specs.DecksWords.{target}
 
-pub at-most : {a : Automaton} {n m : ℕ} → Valid a → Dimensioned n m → base-variables (view a) n m ≤ 4_199_424
-at-most {a} {n} {m} v d = variables-le (view a) n m (d .n-le) (d .m-le) (v .states-le) (letters-le v) (v .sets-le)
+pub at-most : {a : Automaton} {τ : Target} → Valid a → Dimensioned τ → last a τ ≤ 4_199_424
+at-most {a} {τ} v d = variables-le (view a) (named τ) (d .n-le) (d .m-le) (v .states-le) (letters-le v) (v .sets-le)
 
-pub met : (a : Automaton) → a .states ≡ 16 → a .propositions ≡ 4 → a .sets ≡ 4 → base-variables (view a) 8 4 ≡ 4_199_424
+pub met : (a : Automaton) → a .states ≡ 16 → a .propositions ≡ 4 → a .sets ≡ 4 → last a (target 8 4) ≡ 4_199_424
 met a r k s = rw (r, k, s)
 
 abbrev pub largest : Automaton

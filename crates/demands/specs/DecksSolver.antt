@@ -8,14 +8,15 @@ use Rattle.automaton.specs.declared.Automaton.{Automaton}
 use Rattle.refusals.specs.declared.Refusal.{Refusal}
 use Rattle.refusals.specs.Refused.{codeOf}
 use Rattle.automaton.specs.Value.{Valid}
+use Rattle.clause_sizes.specs.declared.Target.{Target}
+use Rattle.clause_sizes.specs.Targets.{Dimensioned, last, kept}
 use Rattle.compare.specs.Compared.{prefixRoom, loopRoom}
-use Rattle.clause_sizes.specs.Sizes.{Dimensioned}
 use Rattle.solver_text.specs.declared.Reader.{Reader}
 use Rattle.solver_text.specs.declared.Reply.{Reply}
 use Rattle.solver_scan.specs.declared.Verdict.the-variants.{Satisfiable}
 use Rattle.solver_scan.specs.SolverText.{Seen, gives, refused, outcome}
 use Rattle.solver_agreement.specs.Assignment.{asserted, States}
-use Rattle.solver_text.specs.Calls.{InRange, Ends, last, kept}
+use Rattle.solver_text.specs.Calls.{InRange, Ends}
 use Rattle.solver_text.specs.Answered.{called-text}
 use Rattle.solver_agreement.specs.Table.{table}
 use Rattle.solver_agreement.specs.Pieces.{reads-range, Tells, whole-text}
@@ -23,33 +24,33 @@ use Rattle.decode.specs.declared.Decoded.{Decoded}
 use Rattle.decode.specs.Answers.{whole, Decodes, Admitted, ByAssignment}
 use Rattle.demands.specs.DecksWords.{HasRead, SolverTextRefused}
 
-module _ {a : Automaton} {n m : ℕ} (v : Valid a) (z : Dimensioned n m) {text : List ℕ} {q : Reader} (h : HasRead a n m text q) where
+module _ {a : Automaton} {τ : Target} (v : Valid a) (z : Dimensioned τ) {text : List ℕ} {q : Reader} (h : HasRead a τ text q) where
   in-range : InRange q
   in-range = reads-range v z (h .reads)
 
   -- the reply at the end tells what the whole text gives
-  tells : {e : Reply} → Ends a n m q e → Tells (kept a n m) (outcome (last a n m) (kept a n m) text) e
-  tells {e} k = subst (λ t. Tells (kept a n m) (outcome (last a n m) (kept a n m) t) e) (h .whole) (whole-text v z (h .reads) k)
+  tells : {e : Reply} → Ends a τ q e → Tells (kept a τ) (outcome (last a τ) (kept a τ) text) e
+  tells {e} k = subst (λ t. Tells (kept a τ) (outcome (last a τ) (kept a τ) t) e) (h .whole) (whole-text v z (h .reads) k)
 
   -- and so does what the decoder takes for it
-  whole-tells : Tells (kept a n m) (outcome (last a n m) (kept a n m) text) (whole a n m q)
+  whole-tells : Tells (kept a τ) (outcome (last a τ) (kept a τ) text) (whole a τ q)
   whole-tells = tells (called-text v in-range z refl)
 
   module _ {prefix prefix-after loop loop-after : List ℕ} (hp : prefixRoom ≤ length prefix) (hl : loopRoom ≤ length loop) {x : Decoded}
-      (d : Decodes prefix prefix-after loop loop-after x a n m q) where
-    admitted : Admitted prefix prefix-after loop loop-after x a n m q
+      (d : Decodes prefix prefix-after loop loop-after x a τ q) where
+    admitted : Admitted prefix prefix-after loop loop-after x a τ q
     admitted = record { prefix-room = hp; loop-room = hl; valid = v; in-range = in-range; sizes = z }
 
-    pub by-assignment : {s : Seen} → outcome (last a n m) (kept a n m) text ≡ gives s → s .verdict ≡ Satisfiable
-        → ByAssignment prefix prefix-after loop loop-after x a n m (λ k. eqb (getD (table (kept a n m) (s .literals)) k 0) 1)
+    pub by-assignment : {s : Seen} → outcome (last a τ) (kept a τ) text ≡ gives s → s .verdict ≡ Satisfiable
+        → ByAssignment prefix prefix-after loop loop-after x a τ (λ k. eqb (getD (table (kept a τ) (s .literals)) k 0) 1)
     by-assignment {s} e k =
         let t = whole-tells in
-        subst (λ t. ByAssignment prefix prefix-after loop loop-after x a n m (λ k. eqb (getD t k 0) 1)) (t .named s e)
+        subst (λ t. ByAssignment prefix prefix-after loop loop-after x a τ (λ k. eqb (getD t k 0) 1)) (t .named s e)
         (d .accepted admitted (t .accepted s e) .satisfiable (t .verdict s e ∙ k))
 
 -- a text with a fault
-pub text-refused : {a : Automaton} {n m : ℕ} → Valid a → Dimensioned n m → {text : List ℕ} {f : Refusal} → outcome (last a n m) (kept a n m) text ≡ refused f
-    → SolverTextRefused a n m text (codeOf f)
+pub text-refused : {a : Automaton} {τ : Target} → Valid a → Dimensioned τ → {text : List ℕ} {f : Refusal} → outcome (last a τ) (kept a τ) text ≡ refused f
+    → SolverTextRefused a τ text (codeOf f)
 text-refused v z {f} e = record {
   refusal = f;
   code = refl;

@@ -14,15 +14,16 @@ use Rattle.refusals.specs.declared.Refusal.the-variants.{Outside}
 use Rattle.refusals.specs.Refused.{row, codeOf}
 use Rattle.automaton.specs.Value.{Valid}
 use Rattle.encoding.specs.Clauses.{Assignment}
+use Rattle.clause_sizes.specs.declared.Target.{Target}
+use Rattle.clause_sizes.specs.Targets.{Dimensioned, last, kept}
 use Rattle.compare.specs.Compared.{prefixRoom, loopRoom}
-use Rattle.clause_sizes.specs.Sizes.{Dimensioned}
 use Rattle.solver_text.specs.declared.Reader.{Reader}
 use Rattle.solver_text.specs.declared.Answer as solution
 use Rattle.solver_text.specs.declared.Answer.the-variants as reading
 use Rattle.solver_scan.specs.declared.Verdict.{Verdict}
 use Rattle.solver_scan.specs.declared.Verdict.the-variants.{Unstated, Satisfiable, Unsatisfiable, Unknown}
 use Rattle.solver_text.specs.Machine.{end}
-use Rattle.solver_text.specs.Calls.{InRange, last, kept, returned as solution-said}
+use Rattle.solver_text.specs.Calls.{InRange, returned as solution-said}
 use Rattle.decode.specs.declared.Answer.the-variants.{Refused}
 use Rattle.decode.specs.declared.Decoded.{Decoded}
 use Rattle.decode.specs.Answers.{whole, without, Untouched, Admitted, ByVerdict, Decodes, returned as decoder-said}
@@ -72,13 +73,13 @@ answer-refused (reading.Refused f) k = (f, refl)
 
 -- ---- the decoder
 
-module _ {prefix prefix-after loop loop-after : List ℕ} {answer : Decoded} {a : Automaton} {n m : ℕ} {r : Reader}
-    (d : Decodes prefix prefix-after loop loop-after answer a n m r) where
+module _ {prefix prefix-after loop loop-after : List ℕ} {answer : Decoded} {a : Automaton} {τ : Target} {r : Reader}
+    (d : Decodes prefix prefix-after loop loop-after answer a τ r) where
   abbrev ν : Assignment
-  ν = stated-by a n m r
+  ν = stated-by a τ r
 
   abbrev Result : Type 0
-  Result = JudgesDecoding a n m r prefix prefix-after loop loop-after answer
+  Result = JudgesDecoding a τ r prefix prefix-after loop loop-after answer
 
   abbrev Kept : Decoded → Option Code → Type 0
   Kept = Untouched prefix prefix-after loop loop-after answer
@@ -90,28 +91,28 @@ module _ {prefix prefix-after loop loop-after : List ℕ} {answer : Decoded} {a 
       go (yes v) = d .state h g (λ i. k (v, i))
       go (no v) = d .automaton h g v
 
-  module _ (h : prefixRoom ≤ length prefix) (g : loopRoom ≤ length loop) (v : Valid a × InRange r) (z : Dimensioned n m) where
-    admitted : Admitted prefix prefix-after loop loop-after answer a n m r
+  module _ (h : prefixRoom ≤ length prefix) (g : loopRoom ≤ length loop) (v : Valid a × InRange r) (z : Dimensioned τ) where
+    admitted : Admitted prefix prefix-after loop loop-after answer a τ r
     admitted = record { prefix-room = h; loop-room = g; valid = v .0; in-range = v .1; sizes = z }
 
     -- what is answered to an accepted text, by its verdict
-    accepting : solution-said (whole a n m r .answer) ≡ none → ByVerdict prefix prefix-after loop loop-after answer a n m (whole a n m r .reader)
-    accepting e = d .accepted admitted (answer-accepted (whole a n m r .answer) e)
+    accepting : solution-said (whole a τ r .answer) ≡ none → ByVerdict prefix prefix-after loop loop-after answer a τ (whole a τ r .reader)
+    accepting e = d .accepted admitted (answer-accepted (whole a τ r .answer) e)
 
   -- what a text is refused with is 9 or 10
-  text-number : (f : Refusal) → whole a n m r .answer ≡ reading.Refused f → codeOf f .number ≢ 12
+  text-number : (f : Refusal) → whole a τ r .answer ≡ reading.Refused f → codeOf f .number ≢ 12
   text-number f e is =
-      ⊎-elim (λ t. omega arith) (λ t. omega arith) (fault-number (end (last a n m) (kept a n m) r) (codeOf f) (ap solution-said e))
+      ⊎-elim (λ t. omega arith) (λ t. omega arith) (fault-number (end (last a τ) (kept a τ) r) (codeOf f) (ap solution-said e))
 
-  module _ (state letter : ℕ) (low : ¬ AllStep a n m (stated-by a n m r) → LowestWithout a n m (stated-by a n m r) state letter) where
+  module _ (state letter : ℕ) (low : ¬ AllStep a τ (stated-by a τ r) → LowestWithout a τ (stated-by a τ r) state letter) where
     -- without a word
     abbrev Fails : Code → Type 0
-    Fails = TurnedDown (to-decode a n m r (length prefix) (length loop) state letter 0 0)
+    Fails = TurnedDown (to-decode a τ r (length prefix) (length loop) state letter 0 0)
 
     abbrev Passes : Type 0
-    Passes = Accepted (to-decode a n m r (length prefix) (length loop) state letter 0 0)
+    Passes = Accepted (to-decode a τ r (length prefix) (length loop) state letter 0 0)
 
-    decided : Decided (to-decode a n m r (length prefix) (length loop) state letter 0 0)
+    decided : Decided (to-decode a τ r (length prefix) (length loop) state letter 0 0)
     decided = (
       decLe prefixRoom (length prefix),
       λ h. (
@@ -119,16 +120,16 @@ module _ {prefix prefix-after loop loop-after : List ℕ} {answer : Decoded} {a 
         λ g. (
           Dec·and (valid-decided a) (in-range-decided r),
           λ v. (
-            dimensioned-decided n m,
+            dimensioned-decided τ,
             λ z. (
-              fault-decided (solution-said (whole a n m r .answer)),
+              fault-decided (solution-said (whole a τ r .answer)),
               λ e. (
-                Dec·not (unstated-decided (verdict-of a n m r)),
+                Dec·not (unstated-decided (verdict-of a τ r)),
                 λ k. (
-                  where-satisfiable (satisfiable-decided (verdict-of a n m r)) (λ s. all-step-decided),
+                  where-satisfiable (satisfiable-decided (verdict-of a τ r)) (λ s. all-step-decided),
                   λ t. (
-                    where-satisfiable (satisfiable-decided (verdict-of a n m r)) (λ s.
-                        agree-decided (decodedValue a n m ν) a (decoded-valid (v .0) z ν (t s)) (v .0) refl),
+                    where-satisfiable (satisfiable-decided (verdict-of a τ r)) (λ s.
+                        agree-decided (decodedValue a τ ν) a (decoded-valid (v .0) z ν (t s)) (v .0) refl),
                     λ s. tt,
                   ),
                 ),
@@ -139,10 +140,10 @@ module _ {prefix prefix-after loop loop-after : List ℕ} {answer : Decoded} {a 
       ),
     )
       where
-        all-step-decided : Dec (AllStep a n m (stated-by a n m r))
-        all-step-decided = go (all-or-lowest a n m (stated-by a n m r))
+        all-step-decided : Dec (AllStep a τ (stated-by a τ r))
+        all-step-decided = go (all-or-lowest a τ (stated-by a τ r))
           where
-            go : AllStep a n m (stated-by a n m r) ⊎ ((q l : ℕ) × LowestWithout a n m (stated-by a n m r) q l) → Dec (AllStep a n m (stated-by a n m r))
+            go : AllStep a τ (stated-by a τ r) ⊎ ((q l : ℕ) × LowestWithout a τ (stated-by a τ r) q l) → Dec (AllStep a τ (stated-by a τ r))
             go (inl t) = yes t
             go (inr (q, l, w)) = no (λ t. w .no-step (t q l (w .state-lt) (w .letter-lt)))
 
@@ -162,7 +163,7 @@ module _ {prefix prefix-after loop loop-after : List ℕ} {answer : Decoded} {a 
           accepted = λ s. some-none (sym said ∙ s);
         }
 
-    acceptance : {w : Verdict} {y : Decoded} → Passes → verdict-of a n m r ≡ w → (answer ≡ y → Answers w (decodedValue a n m ν) answer) → Kept y none → Result
+    acceptance : {w : Verdict} {y : Decoded} → Passes → verdict-of a τ r ≡ w → (answer ≡ y → Answers w (decodedValue a τ ν) answer) → Kept y none → Result
     acceptance t q is (e, p, l, returns) = record {
       state = state;
       letter = letter;
@@ -172,7 +173,7 @@ module _ {prefix prefix-after loop loop-after : List ℕ} {answer : Decoded} {a 
       lowest = low;
       empty = λ k s other. (refl, refl);
       shown = λ c s is. some-none (sym s ∙ returns);
-      accepted = λ s. (subst (λ w. Answers w (decodedValue a n m ν) answer) (sym q) (is e), p, l);
+      accepted = λ s. (subst (λ w. Answers w (decodedValue a τ ν) answer) (sym q) (is e), p, l);
     }
 
     result : ((k : Code) × Fails k) ⊎ Passes → Result
@@ -182,21 +183,21 @@ module _ {prefix prefix-after loop loop-after : List ℕ} {answer : Decoded} {a 
     result (inl (k, inr (h, inr (g, inr (v, inl (z, e)))))) =
         refusal (inr (h, inr (g, inr (v, inl (z, e))))) (d .dimensions h g (v .0) (v .1) z) e (λ is. omega arith)
     result (inl (k, inr (h, inr (g, inr (v, inr (z, inl (f, e))))))) =
-        let (b, w) = answer-refused (whole a n m r .answer) f in
+        let (b, w) = answer-refused (whole a τ r .answer) f in
         refusal (inr (h, inr (g, inr (v, inr (z, inl (f, e)))))) (d .text (admitted h g v z) b w)
         (e ∙ ap (λ w. fault-code (solution-said w)) w) (text-number b w)
     result (inl (k, inr (h, inr (g, inr (v, inr (z, inr (f, inl (u, e)))))))) =
-        refusal (inr (h, inr (g, inr (v, inr (z, inr (f, inl (u, e))))))) (accepting h g v z f .unstated (Dec·not-not (unstated-decided (verdict-of a n m r)) .0 u)) e (λ is. omega arith)
-    result (inl (k, inr (h, inr (g, inr (v, inr (z, inr (f, inr (u, inl (t, e))))))))) = stuck (satisfiable-decided (verdict-of a n m r))
+        refusal (inr (h, inr (g, inr (v, inr (z, inr (f, inl (u, e))))))) (accepting h g v z f .unstated (Dec·not-not (unstated-decided (verdict-of a τ r)) .0 u)) e (λ is. omega arith)
+    result (inl (k, inr (h, inr (g, inr (v, inr (z, inr (f, inr (u, inl (t, e))))))))) = stuck (satisfiable-decided (verdict-of a τ r))
       where
-        stuck : Dec (verdict-of a n m r ≡ Satisfiable) → Result
+        stuck : Dec (verdict-of a τ r ≡ Satisfiable) → Result
         stuck (no j) = absurd (t (λ s. absurd (j s)))
         stuck (yes s) =
             refusal (inr (h, inr (g, inr (v, inr (z, inr (f, inr (u, inl (t, e))))))))
             (accepting h g v z f .satisfiable s .no-step state letter (low (λ all. t (λ s. all)))) e (λ is. omega arith)
-    result (inl (k, inr (h, inr (g, inr (v, inr (z, inr (f, inr (u, inr (t, inl (j, e)))))))))) = differing (satisfiable-decided (verdict-of a n m r))
+    result (inl (k, inr (h, inr (g, inr (v, inr (z, inr (f, inr (u, inr (t, inl (j, e)))))))))) = differing (satisfiable-decided (verdict-of a τ r))
       where
-        differing : Dec (verdict-of a n m r ≡ Satisfiable) → Result
+        differing : Dec (verdict-of a τ r ≡ Satisfiable) → Result
         differing (no i) = absurd (j (λ s. absurd (i s)))
         differing (yes s) =
             let w = accepting h g v z f .satisfiable s .table (t s) .differ (λ agree. j (λ s. agree)) in
@@ -213,21 +214,21 @@ module _ {prefix prefix-after loop loop-after : List ℕ} {answer : Decoded} {a 
               accepted = λ e. some-none (sym said ∙ e);
             }
     result (inl (k, inr (h, inr (g, inr (v, inr (z, inr (f, inr (u, inr (t, inr (j, e)))))))))) = absurd e
-    result (inr (h, (g, (v, (z, (f, (u, (t, (j, e))))))))) = go (verdict-of a n m r) refl
+    result (inr (h, (g, (v, (z, (f, (u, (t, (j, e))))))))) = go (verdict-of a τ r) refl
       where
-        go : (w : Verdict) → verdict-of a n m r ≡ w → Result
+        go : (w : Verdict) → verdict-of a τ r ≡ w → Result
         go Unstated q = absurd (u q)
         go Satisfiable q = acceptance (h, (g, (v, (z, (f, (u, (t, (j, e)))))))) q (λ e. e) (accepting h g v z f .satisfiable q .table (t q) .same (j q))
         go Unsatisfiable q = acceptance (h, (g, (v, (z, (f, (u, (t, (j, e)))))))) q (λ e. e) (accepting h g v z f .none q)
         go Unknown q = acceptance (h, (g, (v, (z, (f, (u, (t, (j, e)))))))) q (λ e. e) (accepting h g v z f .unknown q)
 
-  pub decoder-judged : JudgesDecoding a n m r prefix prefix-after loop loop-after answer
-  decoder-judged = go (all-or-lowest a n m (stated-by a n m r))
+  pub decoder-judged : JudgesDecoding a τ r prefix prefix-after loop loop-after answer
+  decoder-judged = go (all-or-lowest a τ (stated-by a τ r))
     where
-      from : (state letter : ℕ) → (¬ AllStep a n m (stated-by a n m r) → LowestWithout a n m (stated-by a n m r) state letter) → Result
+      from : (state letter : ℕ) → (¬ AllStep a τ (stated-by a τ r) → LowestWithout a τ (stated-by a τ r) state letter) → Result
       from state letter low =
-          result state letter low (decision (to-decode a n m r (length prefix) (length loop) state letter 0 0) (decided state letter low))
+          result state letter low (decision (to-decode a τ r (length prefix) (length loop) state letter 0 0) (decided state letter low))
 
-      go : AllStep a n m (stated-by a n m r) ⊎ ((q l : ℕ) × LowestWithout a n m (stated-by a n m r) q l) → Result
+      go : AllStep a τ (stated-by a τ r) ⊎ ((q l : ℕ) × LowestWithout a τ (stated-by a τ r) q l) → Result
       go (inl t) = from 0 0 (λ k. absurd (k t))
       go (inr (q, l, w)) = from q l (λ k. w)

@@ -12,8 +12,9 @@ use Rattle.refusals.specs.declared.Refusal.the-variants.{Differ}
 use Rattle.automaton.specs.Value.{Valid}
 use Rattle.automaton.specs.View.{view}
 use Rattle.encoding.specs.Clauses.{Assignment}
+use Rattle.clause_sizes.specs.declared.Target.{Target}
+use Rattle.clause_sizes.specs.Targets.{Dimensioned}
 use Rattle.compare.specs.Compared.{prefixRoom, loopRoom}
-use Rattle.clause_sizes.specs.Sizes.{Dimensioned}
 use Rattle.solver_text.specs.declared.Reader.{Reader}
 use Rattle.solver_text.specs.declared.Answer as solution
 use Rattle.solver_text.specs.declared.Answer.the-variants as reading
@@ -37,37 +38,37 @@ module _ {prefix p q loop l m : List ℕ} {x y : Decoded} {a : Automaton} where
   by-agreement D E (yes s) = alike (D .same s) (E .same s)
   by-agreement D E (no s) = differs (D .differ s) (E .differ s)
 
-  module _ {n k : ℕ} (v : Valid a) (z : Dimensioned n k) where
-    by-steps : {ν : Assignment} → ByAssignment prefix p loop l x a n k ν → ByAssignment prefix q loop m y a n k ν
-        → AllStep a n k ν ⊎ ((s j : ℕ) × LowestWithout a n k ν s j) → Alike x y p q l m
-    by-steps {ν} D E (inl t) = by-agreement (D .table t) (E .table t) (agree-decided (decodedValue a n k ν) a (decoded-valid v z ν t) v refl)
+  module _ {τ : Target} (v : Valid a) (z : Dimensioned τ) where
+    by-steps : {ν : Assignment} → ByAssignment prefix p loop l x a τ ν → ByAssignment prefix q loop m y a τ ν
+        → AllStep a τ ν ⊎ ((s j : ℕ) × LowestWithout a τ ν s j) → Alike x y p q l m
+    by-steps {ν} D E (inl t) = by-agreement (D .table t) (E .table t) (agree-decided (decodedValue a τ ν) a (decoded-valid v z ν t) v refl)
     by-steps D E (inr (s, j, w)) = alike (D .no-step s j w) (E .no-step s j w)
 
-    by-verdict : {r : Reader} → ByVerdict prefix p loop l x a n k r → ByVerdict prefix q loop m y a n k r → (w : Verdict) → r .scan .verdict ≡ w → Alike x y p q l m
+    by-verdict : {r : Reader} → ByVerdict prefix p loop l x a τ r → ByVerdict prefix q loop m y a τ r → (w : Verdict) → r .scan .verdict ≡ w → Alike x y p q l m
     by-verdict D E Unstated e = alike (D .unstated e) (E .unstated e)
-    by-verdict {r} D E Satisfiable e = by-steps (D .satisfiable e) (E .satisfiable e) (all-or-lowest a n k (said r))
+    by-verdict {r} D E Satisfiable e = by-steps (D .satisfiable e) (E .satisfiable e) (all-or-lowest a τ (said r))
     by-verdict D E Unsatisfiable e = alike (D .none e) (E .none e)
     by-verdict D E Unknown e = alike (D .unknown e) (E .unknown e)
 
-module _ {prefix p q loop l m : List ℕ} {x y : Decoded} {a : Automaton} {n k : ℕ} {r : Reader} (D : Decodes prefix p loop l x a n k r) (E : Decodes prefix q loop m y a n k r) where
-  by-text : Valid a → Dimensioned n k → Admitted prefix p loop l x a n k r → Admitted prefix q loop m y a n k r
-      → (w : solution.Answer) → whole a n k r .answer ≡ w → Alike x y p q l m
+module _ {prefix p q loop l m : List ℕ} {x y : Decoded} {a : Automaton} {τ : Target} {r : Reader} (D : Decodes prefix p loop l x a τ r) (E : Decodes prefix q loop m y a τ r) where
+  by-text : Valid a → Dimensioned τ → Admitted prefix p loop l x a τ r → Admitted prefix q loop m y a τ r
+      → (w : solution.Answer) → whole a τ r .answer ≡ w → Alike x y p q l m
   by-text v z A B (reading.Refused f) e = alike (D .text A f e) (E .text B f e)
-  by-text v z A B reading.Accepted e = by-verdict v z (D .accepted A e) (E .accepted B e) (whole a n k r .reader .scan .verdict) refl
+  by-text v z A B reading.Accepted e = by-verdict v z (D .accepted A e) (E .accepted B e) (whole a τ r .reader .scan .verdict) refl
 
   module _ (h : prefixRoom ≤ length prefix) (g : loopRoom ≤ length loop) where
-    by-values : Dec (Valid a) → Dec (InRange r) → Dec (Dimensioned n k) → Alike x y p q l m
+    by-values : Dec (Valid a) → Dec (InRange r) → Dec (Dimensioned τ) → Alike x y p q l m
     by-values (no v) i z = alike (D .automaton h g v) (E .automaton h g v)
     by-values (yes v) (no i) z = alike (D .state h g i) (E .state h g i)
     by-values (yes v) (yes i) (no z) = alike (D .dimensions h g v i z) (E .dimensions h g v i z)
     by-values (yes v) (yes i) (yes z) =
         by-text v z (record { prefix-room = h; loop-room = g; valid = v; in-range = i; sizes = z }) (record { prefix-room = h; loop-room = g; valid = v; in-range = i; sizes = z })
-        (whole a n k r .answer) refl
+        (whole a τ r .answer) refl
 
   by-room : Dec (prefixRoom ≤ length prefix) → Dec (loopRoom ≤ length loop) → Alike x y p q l m
   by-room (no h) g = alike (D .short-prefix (omega arith)) (E .short-prefix (omega arith))
   by-room (yes h) (no g) = alike (D .short-loop h (omega arith)) (E .short-loop h (omega arith))
-  by-room (yes h) (yes g) = by-values h g (valid-decided a) (in-range-decided r) (dimensioned-decided n k)
+  by-room (yes h) (yes g) = by-values h g (valid-decided a) (in-range-decided r) (dimensioned-decided τ)
 
   pub decoding-once : Alike x y p q l m
   decoding-once = by-room (decLe prefixRoom (length prefix)) (decLe loopRoom (length loop))

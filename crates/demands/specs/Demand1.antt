@@ -13,6 +13,8 @@ use lib.ListN.{length}
 use Rattle.automaton.specs.declared.Automaton.{Automaton}
 use Rattle.refusals.specs.declared.Code.{Code}
 use Rattle.automaton.specs.Value.{Valid}
+use Rattle.clause_sizes.specs.declared.Target.{Target}
+use Rattle.clause_sizes.specs.Targets.{Dimensioned, last, kept}
 use Rattle.compare.specs.declared.Comparison.{Comparison}
 use Rattle.compare.specs.Compared.{Compared, prefixRoom, loopRoom}
 use Rattle.hoa_text.specs.ReadBack.{read-back}
@@ -24,7 +26,6 @@ use Rattle.hoa_read.specs.declared.Answer.the-variants.{Read}
 use Rattle.hoa_read.specs.Told as hoa
 use Rattle.hoa_write.specs.declared.Written.{Written}
 use Rattle.hoa_write.specs.Answer.{Answered, returned as writer-said}
-use Rattle.clause_sizes.specs.Sizes.{Dimensioned}
 use Rattle.clause_header.specs.declared.Totals.{Totals}
 use Rattle.clause_header.specs.Header.{Headed, returned as header-said}
 use Rattle.clause_step.specs.declared.Handed.{Handed}
@@ -35,7 +36,7 @@ use Rattle.solver_text.specs.declared.Reader.{Reader}
 use Rattle.solver_text.specs.declared.Reply.{Reply}
 use Rattle.solver_scan.specs.SolverText.{fault, outcome}
 use Rattle.solver_text.specs.Machine.{told, run, end, fresh}
-use Rattle.solver_text.specs.Calls.{Called, Reads, Ends, InRange, RefusedExactly, joined, last, kept, returned as solution-said}
+use Rattle.solver_text.specs.Calls.{Called, Reads, Ends, InRange, RefusedExactly, joined, returned as solution-said}
 use Rattle.solver_agreement.specs.Staying.{refused-run, refused-end}
 use Rattle.solver_agreement.specs.MidText.{piece-refused-exactly}
 use Rattle.decode.specs.declared.Decoded.{Decoded}
@@ -45,7 +46,6 @@ use Rattle.search_rule.specs.declared.Search.{Search}
 use Rattle.search.specs.declared.Reply as search
 use Rattle.search_rule.specs.Rule as rule
 use Rattle.search.specs.Replies.{Started, Told, Found, returned as search-said}
-use Rattle.demands.specs.File.{last-variable, steps-and-marks}
 use Rattle.demands.specs.Judgement.{Judged}
 use Rattle.demands.specs.Conditions.{to-read, to-write, JudgesComparison, to-count, to-hand-out, JudgesReading, JudgesDecoding, to-start, to-go-on, JudgesFinding}
 use Rattle.demands.specs.HoaJudged.{reader-judged, reader-valid, writer-judged}
@@ -67,18 +67,18 @@ pub record ReadsHoa : Type 0 where
 
 -- The reader of solver text: a call with a piece, one for the end, and what is said of whole texts
 pub record ReadsSolverText : Type 0 where
-  pub piece : (a : Automaton) (n m : ℕ) (r : Reader) (u : List ℕ) (e : Reply) → Called a n m r (told (run (last a n m) (kept a n m) r u)) e
-      → JudgesReading a n m r (told (run (last a n m) (kept a n m) r u)) e
-  pub finish : (a : Automaton) (n m : ℕ) (r : Reader) (e : Reply) → Ends a n m r e → JudgesReading a n m r (told (end (last a n m) (kept a n m) r)) e
+  pub piece : (a : Automaton) (τ : Target) (r : Reader) (u : List ℕ) (e : Reply) → Called a τ r (told (run (last a τ) (kept a τ) r u)) e
+      → JudgesReading a τ r (told (run (last a τ) (kept a τ) r u)) e
+  pub finish : (a : Automaton) (τ : Target) (r : Reader) (e : Reply) → Ends a τ r e → JudgesReading a τ r (told (end (last a τ) (kept a τ) r)) e
   -- "Text may arrive cut anywhere; the answer is that of the whole text": 9 and 10 are returned where the definition of solver text gives them
-  pub whole : (a : Automaton) (n m : ℕ) → Valid a → Dimensioned n m → (us : List (List ℕ)) (q : Reader) (e : Reply) → Reads a n m fresh us q → Ends a n m q e
-      → solution-said (e .answer) ≡ fault (outcome (last-variable a n m) (steps-and-marks a n m) (joined us))
+  pub whole : (a : Automaton) (τ : Target) → Valid a → Dimensioned τ → (us : List (List ℕ)) (q : Reader) (e : Reply) → Reads a τ fresh us q → Ends a τ q e
+      → solution-said (e .answer) ≡ fault (outcome (last a τ) (kept a τ) (joined us))
   -- and in mid-text: a piece is refused exactly where every text that begins so is
-  pub mid-text : (a : Automaton) (n m : ℕ) → Valid a → Dimensioned n m → (us : List (List ℕ)) (q : Reader) (u : List ℕ) (e : Reply) → Reads a n m fresh us q
-      → Called a n m q (told (run (last a n m) (kept a n m) q u)) e → RefusedExactly (last-variable a n m) (steps-and-marks a n m) (joined us ++ u) (e .answer)
+  pub mid-text : (a : Automaton) (τ : Target) → Valid a → Dimensioned τ → (us : List (List ℕ)) (q : Reader) (u : List ℕ) (e : Reply) → Reads a τ fresh us q
+      → Called a τ q (told (run (last a τ) (kept a τ) q u)) e → RefusedExactly (last a τ) (kept a τ) (joined us ++ u) (e .answer)
   -- "refused solver text stays refused", whatever comes next
-  pub stays : (a : Automaton) (n m : ℕ) (r : Reader) (c : Code) → Valid a → InRange r → Dimensioned n m → solution-said (told r .answer) ≡ some c
-      → ((u : List ℕ) (e : Reply) → Called a n m r (told (run (last a n m) (kept a n m) r u)) e → e ≡ told r) × ((e : Reply) → Ends a n m r e → e ≡ told r)
+  pub stays : (a : Automaton) (τ : Target) (r : Reader) (c : Code) → Valid a → InRange r → Dimensioned τ → solution-said (told r .answer) ≡ some c
+      → ((u : List ℕ) (e : Reply) → Called a τ r (told (run (last a τ) (kept a τ) r u)) e → e ≡ told r) × ((e : Reply) → Ends a τ r e → e ≡ told r)
   -- what a text is refused with is 9 or 10
   pub number : (r : Reader) (c : Code) → solution-said (told r .answer) ≡ some c → (c .number ≡ 9) ⊎ (c .number ≡ 10)
 
@@ -91,25 +91,25 @@ pub record Demand1 : Type 0 where
   pub compare : (a b : Automaton) (prefix prefix-after loop loop-after : List ℕ) (answer : Comparison) → Compared a b prefix prefix-after loop loop-after answer
       → JudgesComparison a b prefix prefix-after loop loop-after answer
   -- clause_header::header; nothing is lent or carried
-  pub header : (a : Automaton) (n m : ℕ) (answer : Totals) → Headed a n m answer → Judged (to-count a n m) (header-said answer) (Unit {0})
+  pub header : (a : Automaton) (τ : Target) (answer : Totals) → Headed a τ answer → Judged (to-count a τ) (header-said answer) (Unit {0})
   -- clause_step::step
-  pub step : (a : Automaton) (n m x : ℕ) (d e : List ℤ) (r : Handed) → Stepped a n m x d e r
-      → Judged (to-hand-out clauseRoom (length d) a n m x) (step-said (r .answer)) ((r .position ≡ x) × (e ≡ d))
+  pub step : (a : Automaton) (τ : Target) (x : ℕ) (d e : List ℤ) (r : Handed) → Stepped a τ x d e r
+      → Judged (to-hand-out clauseRoom (length d) a τ x) (step-said (r .answer)) ((r .position ≡ x) × (e ≡ d))
   -- clause_line::line
-  pub line : (a : Automaton) (n m x : ℕ) (d e : List ℕ) (r : Handed) → LineStepped a n m x d e r
-      → Judged (to-hand-out lineRoom (length d) a n m x) (step-said (r .answer)) ((r .position ≡ x) × (e ≡ d))
+  pub line : (a : Automaton) (τ : Target) (x : ℕ) (d e : List ℕ) (r : Handed) → LineStepped a τ x d e r
+      → Judged (to-hand-out lineRoom (length d) a τ x) (step-said (r .answer)) ((r .position ≡ x) × (e ≡ d))
   -- clause_text::lines
-  pub lines : (a : Automaton) (n m x : ℕ) (d e : List ℕ) (r : Handed) → BatchStepped a n m x d e r
-      → Judged (to-hand-out lineRoom (length d) a n m x) (step-said (r .answer)) ((r .position ≡ x) × (e ≡ d))
+  pub lines : (a : Automaton) (τ : Target) (x : ℕ) (d e : List ℕ) (r : Handed) → BatchStepped a τ x d e r
+      → Judged (to-hand-out lineRoom (length d) a τ x) (step-said (r .answer)) ((r .position ≡ x) × (e ≡ d))
   -- solver text: Reader::read and Reader::finish
   pub solver-text : ReadsSolverText
   -- decode::decode
-  pub decode : (prefix prefix-after loop loop-after : List ℕ) (answer : Decoded) (a : Automaton) (n m : ℕ) (r : Reader)
-      → Decodes prefix prefix-after loop loop-after answer a n m r → JudgesDecoding a n m r prefix prefix-after loop loop-after answer
+  pub decode : (prefix prefix-after loop loop-after : List ℕ) (answer : Decoded) (a : Automaton) (τ : Target) (r : Reader)
+      → Decodes prefix prefix-after loop loop-after answer a τ r → JudgesDecoding a τ r prefix prefix-after loop loop-after answer
   -- the decoder takes what a fresh reader holds of a text: 9 and 10 where the definition of solver text gives them, and else by what the text says
-  pub decode-text : (prefix prefix-after loop loop-after : List ℕ) (answer : Decoded) (a : Automaton) (n m : ℕ) → prefixRoom ≤ length prefix → loopRoom ≤ length loop → Valid a
-      → Dimensioned n m → (us : List (List ℕ)) (r : Reader) → Reads a n m fresh us r → Decodes prefix prefix-after loop loop-after answer a n m r
-      → OfText prefix prefix-after loop loop-after answer a n m (outcome (last-variable a n m) (steps-and-marks a n m) (joined us))
+  pub decode-text : (prefix prefix-after loop loop-after : List ℕ) (answer : Decoded) (a : Automaton) (τ : Target) → prefixRoom ≤ length prefix → loopRoom ≤ length loop → Valid a
+      → Dimensioned τ → (us : List (List ℕ)) (r : Reader) → Reads a τ fresh us r → Decodes prefix prefix-after loop loop-after answer a τ r
+      → OfText prefix prefix-after loop loop-after answer a τ (outcome (last a τ) (kept a τ) (joined us))
   -- search::start, search::none and search::unknown, search::found
   pub start : (a : Automaton) (r : search.Reply) → Started a r → Judged (to-start a) (search-said (r .answer)) (Unit {0})
   pub none : (s : Search) (r : search.Reply) → Told s (rule.none s) r → Judged (to-go-on s) (search-said (r .answer)) (r .search ≡ s)
@@ -124,13 +124,13 @@ reads-hoa = record { judged = reader-judged; valid = reader-valid; every = λ a 
 
 reads-solver-text : ReadsSolverText
 reads-solver-text = record {
-  piece = λ a n m r u e c. reading-judged a n m r _ e c;
-  finish = λ a n m r e c. reading-judged a n m r _ e c;
-  whole = λ a n m v d us q e k c. whole-judged a n m v d us q e k c;
-  mid-text = λ a n m v d us q u e k c. piece-refused-exactly v d k u c;
-  stays = λ a n m r c v i d t. (
-    λ u e k. k .text v i d ∙ ap told (refused-run (last a n m) (kept a n m) r (fault-place r c t) u),
-    λ e k. k .text v i d ∙ ap told (refused-end (last a n m) (kept a n m) r (fault-place r c t)),
+  piece = λ a τ r u e c. reading-judged a τ r _ e c;
+  finish = λ a τ r e c. reading-judged a τ r _ e c;
+  whole = λ a τ v d us q e k c. whole-judged a τ v d us q e k c;
+  mid-text = λ a τ v d us q u e k c. piece-refused-exactly v d k u c;
+  stays = λ a τ r c v i d t. (
+    λ u e k. k .text v i d ∙ ap told (refused-run (last a τ) (kept a τ) r (fault-place r c t) u),
+    λ e k. k .text v i d ∙ ap told (refused-end (last a τ) (kept a τ) r (fault-place r c t)),
   );
   number = fault-number;
 }
@@ -145,8 +145,8 @@ demand-1 = record {
   line = line-judged;
   lines = lines-judged;
   solver-text = reads-solver-text;
-  decode = λ prefix prefix-after loop loop-after answer a n m r c. decoder-judged c;
-  decode-text = λ prefix prefix-after loop loop-after answer a n m h g v d us r k c. text-answer v d h g k c;
+  decode = λ prefix prefix-after loop loop-after answer a τ r c. decoder-judged c;
+  decode-text = λ prefix prefix-after loop loop-after answer a τ h g v d us r k c. text-answer v d h g k c;
   start = λ a r k. start-judged k;
   none = λ s r k. told-judged k;
   unknown = λ s r k. told-judged k;

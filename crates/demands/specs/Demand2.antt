@@ -15,6 +15,7 @@ use Rattle.automaton.specs.declared.Automaton.{Automaton}
 use Rattle.automaton.specs.Value.{Valid}
 use Rattle.automaton.specs.View.{view}
 use Rattle.automaton.specs.ViewLaws.{view-comparable}
+use Rattle.clause_sizes.specs.declared.Target.{Target}
 use Rattle.compare.specs.declared.Comparison.{Comparison}
 use Rattle.compare.specs.declared.Comparison.the-variants.{Same}
 use Rattle.compare.specs.Compared.{Compared, Shown, returned as comparison-said, prefixRoom, loopRoom}
@@ -77,7 +78,7 @@ pub record Demand2 : Type 0 where
   pub compares-once : (a b : Automaton) (prefix p q loop l m : List ℕ) (x y : Comparison) → Compared a b prefix p loop l x → Compared a b prefix q loop m y
       → (x ≡ y) × (p ≡ q) × (l ≡ m)
   -- "and decoder and search pass the stronger promise on"
-  pub decodes-once : (prefix p q loop l m : List ℕ) (x y : Decoded) (a : Automaton) (n k : ℕ) (r : Reader) → Decodes prefix p loop l x a n k r → Decodes prefix q loop m y a n k r
+  pub decodes-once : (prefix p q loop l m : List ℕ) (x y : Decoded) (a : Automaton) (τ : Target) (r : Reader) → Decodes prefix p loop l x a τ r → Decodes prefix q loop m y a τ r
       → (x ≡ y) × (p ≡ q) × (l ≡ m)
   pub finds-once : (s : Search) (table : Automaton) (prefix p q loop l m : List ℕ) (x y : search.Reply) → Found s table prefix p loop l x → Found s table prefix q loop m y
       → (x ≡ y) × (p ≡ q) × (l ≡ m)
@@ -123,7 +124,7 @@ demand-2 = record {
   compares = λ a b prefix prefix-after loop loop-after answer c. comparison c;
   the-word = λ a b v w e n. word-of v w e n;
   compares-once = λ a b prefix p q loop l m x y c d. comparison-once c d;
-  decodes-once = λ prefix p q loop l m x y a n k r c d. decoding-once c d;
+  decodes-once = λ prefix p q loop l m x y a τ r c d. decoding-once c d;
   finds-once = λ s table prefix p q loop l m x y c d. finding-once c d;
   reads-back = λ a out after answer w v h.
       let (e, i, _) = w .written h v in

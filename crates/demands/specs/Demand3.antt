@@ -1,4 +1,4 @@
--- DEMAND 3, stated and proved: what the clause file of a reference, n and m says, over every list of calls, every satisfying assignment, every text that states
+-- DEMAND 3, stated and proved: what the clause file of a reference and a target says, over every list of calls, every satisfying assignment, every text that states
 -- one, and every automaton that agrees. Sentences in quotes are document 01's, most of them from "The words of demand 3".
 --
 -- Of its clause c, field 1 shuts out a clause step whose first call alone is true and "ended" before clause C, field 2 a C with no list behind it, and fields
@@ -16,12 +16,12 @@ use Rattle.refusals.specs.Refused.{row}
 use Rattle.automaton.specs.Value.{Valid, letters}
 use Rattle.automaton.specs.View.{view}
 use Rattle.automaton.specs.ViewLaws.{view-formed}
-use Rattle.encoding.specs.Variables.{base, base-number}
 use Rattle.encoding.specs.Clauses.{Assignment, Satisfies, group₄}
-use Rattle.encoding.specs.Base.{base-length, base-encodes}
+use Rattle.encoding.specs.NamedFile.{named-length, named-encodes}
 use Rattle.compare.specs.Compared.{prefixRoom, loopRoom}
+use Rattle.clause_sizes.specs.declared.Target.{Target}
+use Rattle.clause_sizes.specs.Targets.{Dimensioned, task, numbers, last, kept, file, named}
 use Rattle.clause_sizes.specs.Sizes as sizes
-use Rattle.clause_sizes.specs.Sizes.{Dimensioned}
 use Rattle.clause_header.specs.declared.Totals.{Totals}
 use Rattle.clause_header.specs.declared.Totals.the-variants.{Of, Refused as NoTotals}
 use Rattle.clause_header.specs.Header.{Headed}
@@ -34,7 +34,7 @@ use Rattle.solver_text.specs.declared.Reader.{Reader}
 use Rattle.solver_text.specs.declared.Reply.{Reply}
 use Rattle.solver_agreement.specs.Assignment.{States}
 use Rattle.solver_text.specs.Machine.{fresh}
-use Rattle.solver_text.specs.Calls.{Reads, Ends, joined, last, kept}
+use Rattle.solver_text.specs.Calls.{Reads, Ends, joined}
 use Rattle.decode.specs.declared.Decoded.{Decoded}
 use Rattle.decode.specs.declared.Answer.the-variants.{Refused}
 use Rattle.decode.specs.Answers.{Untouched, Decodes, found, without}
@@ -43,15 +43,14 @@ use Rattle.decode.specs.Candidates.{satisfying-steps, satisfying-found, found-d
 use Rattle.decode.specs.Texts.{satisfying-text, satisfying-ended}
 use Rattle.decode.specs.Table.{decodedValue}
 use Rattle.decode.specs.Value.{decoded-same-value}
-use Rattle.demands.specs.File.{file, last-variable, steps-and-marks}
 
 -- ---- the statement
 
 -- "A fresh reader of solver text has read nothing; its own state goes likewise from piece to piece, empty ones too, to the end, and the decoder takes what
 -- it then holds." The decoder ends the text; where the caller has ended it before, that changes nothing.
-pub data Held (reference : Automaton) (n m : ℕ) (pieces : List (List ℕ)) : Reader → Type 0 where
-  read : {r : Reader} → Reads reference n m fresh pieces r → Held reference n m pieces r
-  ended : {r : Reader} {e : Reply} → Reads reference n m fresh pieces r → Ends reference n m r e → Held reference n m pieces (e .reader)
+pub data Held (reference : Automaton) (τ : Target) (pieces : List (List ℕ)) : Reader → Type 0 where
+  read : {r : Reader} → Reads reference τ fresh pieces r → Held reference τ pieces r
+  ended : {r : Reader} {e : Reply} → Reads reference τ fresh pieces r → Ends reference τ r e → Held reference τ pieces (e .reader)
 
 -- the decoder answers C, or 13 where a buffer is short, and leaves both buffers as they were
 pub record Delivers (C : Automaton) (prefix prefix-after loop loop-after : List ℕ) (answer : Decoded) : Type 0 where
@@ -61,74 +60,76 @@ pub record Delivers (C : Automaton) (prefix prefix-after loop loop-after : List 
   pub short-loop : prefixRoom ≤ length prefix → length loop < loopRoom
       → Untouched prefix prefix-after loop loop-after answer (without (Refused (Short loopRoom (length loop)))) (some (row 13 loopRoom (length loop)))
 
-pub record Demand3 (reference : Automaton) (n m : ℕ) : Type 0 where
+pub record Demand3 (reference : Automaton) (τ : Target) : Type 0 where
   -- 1. "A fresh clause step stands before clause 1. Each call gets the same reference, n and m, .. a buffer of any length and the state as the call before it,
   -- refused or not, left it." The calls that are not refused hand out the clauses of the file in order, one each, and then "ended" again and again; a refused
   -- call keeps the position and the buffer.
-  pub clauses : (cs : List Call) → Calls reference n m fresh-position cs → HandsOut reference n m cs
+  pub clauses : (cs : List Call) → Calls reference τ fresh-position cs → HandsOut reference τ cs
   -- The same file as text, one line a call or as many as the buffer holds, in any order.
-  pub lines : (cs : List TextCall) → TextCalls reference n m fresh-position cs → LinesOut reference n m cs
+  pub lines : (cs : List TextCall) → TextCalls reference τ fresh-position cs → LinesOut reference τ cs
   -- 2. "The header is `p cnf V C`": the last variable and the number of clauses.
-  pub header : (r : Totals) → Headed reference n m r → r ≡ Of (last-variable reference n m) (length (file reference n m))
+  pub header : (r : Totals) → Headed reference τ r → r ≡ Of (last reference τ) (length (file reference τ))
   -- "C counted beforehand: nL + (1 + nnrL) + n³rrL·2^m·2^s·2^m + the length of group 4"
-  pub count : length (file reference n m)
+  pub count : let n = τ .states in
+      let m = τ .sets in
+      length (file reference τ)
       ≡ n * letters reference + (1 + n * n * reference .states * letters reference)
       + n * n * n * reference .states * reference .states * letters reference * 2 ^ m * 2 ^ reference .sets * 2 ^ m
-      + length (group₄ (base (view reference) n m) (base-number (view reference) n m))
+      + length (group₄ (task reference τ) (numbers reference τ))
   -- 3. The file can be satisfied exactly if some automaton C is found: with n states, m sets, "start 0" and the reference's propositions and names, and in
   -- agreement with the reference on every lasso word.
-  pub satisfiable : ((ν : Assignment) × Satisfies ν (file reference n m)) ↔ ((C : Automaton) × Found reference n m C)
+  pub satisfiable : ((ν : Assignment) × Satisfies ν (file reference τ)) ↔ ((C : Automaton) × Found reference τ C)
   -- "An assignment says yes or no to each variable from 1 to V": what it says of other numbers does not count.
-  pub within : (ν ξ : Assignment) → ((k : ℕ) → 0 < k → k ≤ last-variable reference n m → ν k ≡ ξ k) → Satisfies ν (file reference n m)
-      → Satisfies ξ (file reference n m) × (decodedValue reference n m ν ≡ decodedValue reference n m ξ)
+  pub within : (ν ξ : Assignment) → ((k : ℕ) → 0 < k → k ≤ last reference τ → ν k ≡ ξ k) → Satisfies ν (file reference τ)
+      → Satisfies ξ (file reference τ) × (decodedValue reference τ ν ≡ decodedValue reference τ ξ)
   -- 4. Every assignment that satisfies the file decodes to such an automaton,
-  pub decodes : (ν : Assignment) → Satisfies ν (file reference n m) → Found reference n m (decodedValue reference n m ν)
+  pub decodes : (ν : Assignment) → Satisfies ν (file reference τ) → Found reference τ (decodedValue reference τ ν)
   -- and for every text that states it, and every list of pieces that make up the text, the decoder answers that automaton from what a fresh reader then holds.
-  pub delivers : (ν : Assignment) → Satisfies ν (file reference n m) → (text : List ℕ) → States (last-variable reference n m) (steps-and-marks reference n m) text ν
-      → (pieces : List (List ℕ)) → joined pieces ≡ text → (r : Reader) → Held reference n m pieces r
-      → (prefix prefix-after loop loop-after : List ℕ) (answer : Decoded) → Decodes prefix prefix-after loop loop-after answer reference n m r
-      → Delivers (decodedValue reference n m ν) prefix prefix-after loop loop-after answer
+  pub delivers : (ν : Assignment) → Satisfies ν (file reference τ) → (text : List ℕ) → States (last reference τ) (kept reference τ) text ν
+      → (pieces : List (List ℕ)) → joined pieces ≡ text → (r : Reader) → Held reference τ pieces r
+      → (prefix prefix-after loop loop-after : List ℕ) (answer : Decoded) → Decodes prefix prefix-after loop loop-after answer reference τ r
+      → Delivers (decodedValue reference τ ν) prefix prefix-after loop loop-after answer
   -- 5. Every such automaton is decoded from an assignment that satisfies the file: the same value.
-  pub complete : (C : Automaton) → Found reference n m C → (ν : Assignment) × Satisfies ν (file reference n m) × (decodedValue reference n m ν ≡ C)
+  pub complete : (C : Automaton) → Found reference τ C → (ν : Assignment) × Satisfies ν (file reference τ) × (decodedValue reference τ ν ≡ C)
 
 -- ---- the proof
 
-module _ {reference : Automaton} {n m : ℕ} (v : Valid reference) (d : Dimensioned n m) where
-  header-is : (r : Totals) → Headed reference n m r → r ≡ Of (last-variable reference n m) (length (file reference n m))
-  header-is (Of last count) (w, i, (e, f)) = ap₂ Of e f
+module _ {reference : Automaton} {τ : Target} (v : Valid reference) (d : Dimensioned τ) where
+  header-is : (r : Totals) → Headed reference τ r → r ≡ Of (last reference τ) (length (file reference τ))
+  header-is (Of variables clauses) (w, i, (e, f)) = ap₂ Of e f
   header-is (NoTotals f) (sizes.outside w) = absurd (w v)
   header-is (NoTotals f) (sizes.dimensions w i) = absurd (i d)
 
-  delivered : (ν : Assignment) → Satisfies ν (file reference n m) → (pieces : List (List ℕ)) → States (last reference n m) (kept reference n m) (joined pieces) ν
-      → (r : Reader) → Held reference n m pieces r → (prefix prefix-after loop loop-after : List ℕ) (answer : Decoded)
-      → Decodes prefix prefix-after loop loop-after answer reference n m r → Delivers (decodedValue reference n m ν) prefix prefix-after loop loop-after answer
+  delivered : (ν : Assignment) → Satisfies ν (file reference τ) → (pieces : List (List ℕ)) → States (last reference τ) (kept reference τ) (joined pieces) ν
+      → (r : Reader) → Held reference τ pieces r → (prefix prefix-after loop loop-after : List ℕ) (answer : Decoded)
+      → Decodes prefix prefix-after loop loop-after answer reference τ r → Delivers (decodedValue reference τ ν) prefix prefix-after loop loop-after answer
   delivered ν s pieces t r h prefix prefix-after loop loop-after answer c = record {
     table = by-held h c;
     short-prefix = c .short-prefix;
     short-loop = c .short-loop;
   }
     where
-      by-held : {r : Reader} → Held reference n m pieces r → Decodes prefix prefix-after loop loop-after answer reference n m r → prefixRoom ≤ length prefix → loopRoom ≤ length loop
-          → Untouched prefix prefix-after loop loop-after answer (found (decodedValue reference n m ν)) none
+      by-held : {r : Reader} → Held reference τ pieces r → Decodes prefix prefix-after loop loop-after answer reference τ r → prefixRoom ≤ length prefix → loopRoom ≤ length loop
+          → Untouched prefix prefix-after loop loop-after answer (found (decodedValue reference τ ν)) none
       by-held (read k) c p l = satisfying-text v d p l ν s k t c
       by-held (ended k e) c p l = satisfying-ended v d p l ν s k t e c
 
-  every-field : Demand3 reference n m
+  every-field : Demand3 reference τ
   every-field = record {
     clauses = hands-out v d;
     lines = lines-out v d;
     header = header-is;
-    count = base-length (view reference) n m;
+    count = named-length (view reference) (named τ);
     satisfiable = can-be-satisfied v d;
     within = λ ν ξ same s. (
-      base-encodes (view reference) n m (view-formed v) (d .n-some) .within ν ξ same s,
-      decoded-same-value reference n m ν ξ (λ k i j. same k i (omega arith)) (satisfying-steps v d ν s),
+      named-encodes (view reference) (named τ) (view-formed v) (d .n-some) .within ν ξ same s,
+      decoded-same-value reference τ ν ξ (λ k i j. same k i (omega arith)) (satisfying-steps v d ν s),
     );
     decodes = satisfying-found v d;
-    delivers = λ ν s text t pieces e. delivered ν s pieces (subst (λ t. States (last reference n m) (kept reference n m) t ν) (sym e) t);
+    delivers = λ ν s text t pieces e. delivered ν s pieces (subst (λ t. States (last reference τ) (kept reference τ) t ν) (sym e) t);
     complete = found-decoded v d;
   }
 
 -- for every reference in "The automaton", "n states (1 to 8), m sets (0 to 4)"
-pub demand-3 : {reference : Automaton} {n m : ℕ} → Valid reference → Dimensioned n m → Demand3 reference n m
+pub demand-3 : {reference : Automaton} {τ : Target} → Valid reference → Dimensioned τ → Demand3 reference τ
 demand-3 v d = every-field v d

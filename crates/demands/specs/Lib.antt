@@ -1,4 +1,3 @@
-pub mod File
 pub mod Judgement
 pub mod Conditions
 pub mod Decisions

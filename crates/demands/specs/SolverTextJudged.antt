@@ -9,27 +9,27 @@ use Rattle.automaton.specs.declared.Automaton.{Automaton}
 use Rattle.refusals.specs.declared.Code.{Code}
 use Rattle.refusals.specs.declared.Refusal.the-variants.{Outside, Dimensions}
 use Rattle.automaton.specs.Value.{Valid}
-use Rattle.clause_sizes.specs.Sizes.{Dimensioned}
+use Rattle.clause_sizes.specs.declared.Target.{Target}
+use Rattle.clause_sizes.specs.Targets.{Dimensioned, last, kept}
 use Rattle.solver_text.specs.declared.Reader.{Reader}
 use Rattle.solver_text.specs.declared.Reply.{Reply}
 use Rattle.solver_scan.specs.declared.Place.{Place}
 use Rattle.solver_scan.specs.SolverText.{Outcome, gives, refused, fault, outcome}
 use Rattle.solver_scan.specs.Scanning.{refusedAt}
 use Rattle.solver_text.specs.Machine.{told, answerAt, fresh}
-use Rattle.solver_text.specs.Calls.{Called, Reads, Ends, InRange, joined, last, kept, refusal, returned as solution-said}
+use Rattle.solver_text.specs.Calls.{Called, Reads, Ends, InRange, joined, refusal, returned as solution-said}
 use Rattle.solver_scan.specs.Cases.{by}
 use Rattle.solver_agreement.specs.Staying.{accepted-place, at-both}
 use Rattle.solver_agreement.specs.Pieces.{whole-text, Tells}
-use Rattle.demands.specs.File.{last-variable, steps-and-marks}
 use Rattle.demands.specs.Judgement.{TurnedDown, Accepted}
 use Rattle.demands.specs.Conditions.{to-begin, no-fault, JudgesReading}
 use Rattle.demands.specs.Decisions.{Decided, fault-decided, fault-is, some-none, judged, valid-decided, dimensioned-decided, in-range-decided}
 
 -- ---- one call
 
-module _ (a : Automaton) (n m : ℕ) (r : Reader) (read reply : Reply) (c : Called a n m r read reply) where
-  decided : Decided (to-begin a n m r ++ (no-fault (solution-said (read .answer)) ∷ []))
-  decided = (Dec·and (valid-decided a) (in-range-decided r), λ v. (dimensioned-decided n m, λ d. (fault-decided (solution-said (read .answer)), λ e. tt)))
+module _ (a : Automaton) (τ : Target) (r : Reader) (read reply : Reply) (c : Called a τ r read reply) where
+  decided : Decided (to-begin a τ r ++ (no-fault (solution-said (read .answer)) ∷ []))
+  decided = (Dec·and (valid-decided a) (in-range-decided r), λ v. (dimensioned-decided τ, λ d. (fault-decided (solution-said (read .answer)), λ e. tt)))
 
   outside : ¬ (Valid a × InRange r) → reply ≡ refusal Outside r
   outside k = go (valid-decided a)
@@ -38,25 +38,25 @@ module _ (a : Automaton) (n m : ℕ) (r : Reader) (read reply : Reply) (c : Call
       go (yes v) = c .state (λ i. k (v, i))
       go (no v) = c .automaton v
 
-  sizes : Valid a → InRange r → ¬ Dimensioned n m → reply ≡ refusal (Dimensions n m) r
+  sizes : Valid a → InRange r → ¬ Dimensioned τ → reply ≡ refusal (Dimensions (τ .states) (τ .sets)) r
   sizes v i k = c .sizes v i k
 
-  text : Valid a → InRange r → Dimensioned n m → reply ≡ read
+  text : Valid a → InRange r → Dimensioned τ → reply ≡ read
   text v i d = c .text v i d
 
-  refuses : (k : Code) → TurnedDown (to-begin a n m r ++ (no-fault (solution-said (read .answer)) ∷ [])) k → (solution-said (reply .answer) ≡ some k) × Unit {0}
+  refuses : (k : Code) → TurnedDown (to-begin a τ r ++ (no-fault (solution-said (read .answer)) ∷ [])) k → (solution-said (reply .answer) ≡ some k) × Unit {0}
   refuses k (inl (h, e)) = (ap (λ x. solution-said (x .answer)) (outside h) ∙ ap some (sym e), tt)
   refuses k (inr (h, inl (d, e))) = (ap (λ x. solution-said (x .answer)) (sizes (h .0) (h .1) d) ∙ ap some (sym e), tt)
   refuses k (inr (h, inr (d, inl (f, e)))) = (ap (λ x. solution-said (x .answer)) (text (h .0) (h .1) d) ∙ fault-is (solution-said (read .answer)) k f e, tt)
   refuses k (inr (h, inr (d, inr (f, t)))) = absurd t
 
-  accepts : Accepted (to-begin a n m r ++ (no-fault (solution-said (read .answer)) ∷ [])) → solution-said (reply .answer) ≡ none
+  accepts : Accepted (to-begin a τ r ++ (no-fault (solution-said (read .answer)) ∷ [])) → solution-said (reply .answer) ≡ none
   accepts (h, (d, (e, t))) = ap (λ x. solution-said (x .answer)) (text (h .0) (h .1) d) ∙ e
 
-  pub reading-judged : JudgesReading a n m r read reply
+  pub reading-judged : JudgesReading a τ r read reply
   reading-judged = record { judged = judged decided refuses accepts; kept = stays; moved = λ (h, (d, t)). ap (λ x. x .reader) (text (h .0) (h .1) d) }
     where
-      stays : (k : Code) → TurnedDown (to-begin a n m r) k → reply .reader ≡ r
+      stays : (k : Code) → TurnedDown (to-begin a τ r) k → reply .reader ≡ r
       stays k (inl (h, e)) = ap (λ x. x .reader) (outside h)
       stays k (inr (h, inl (d, e))) = ap (λ x. x .reader) (sizes (h .0) (h .1) d)
       stays k (inr (h, inr (d, t))) = absurd t
@@ -79,14 +79,14 @@ module _ (r : Reader) (c : Code) (e : solution-said (told r .answer) ≡ some c)
 
 -- ---- whole texts
 
-pub whole-judged : (a : Automaton) (n m : ℕ) → Valid a → Dimensioned n m → (us : List (List ℕ)) (q : Reader) (e : Reply) → Reads a n m fresh us q → Ends a n m q e
-    → solution-said (e .answer) ≡ fault (outcome (last-variable a n m) (steps-and-marks a n m) (joined us))
-whole-judged a n m v d us q e k c =
-    go (outcome (last a n m) (kept a n m) (joined us)) refl
+pub whole-judged : (a : Automaton) (τ : Target) → Valid a → Dimensioned τ → (us : List (List ℕ)) (q : Reader) (e : Reply) → Reads a τ fresh us q → Ends a τ q e
+    → solution-said (e .answer) ≡ fault (outcome (last a τ) (kept a τ) (joined us))
+whole-judged a τ v d us q e k c =
+    go (outcome (last a τ) (kept a τ) (joined us)) refl
   where
-    tells : Tells (kept a n m) (outcome (last a n m) (kept a n m) (joined us)) e
+    tells : Tells (kept a τ) (outcome (last a τ) (kept a τ) (joined us)) e
     tells = whole-text v d k c
 
-    go : (x : Outcome) → outcome (last a n m) (kept a n m) (joined us) ≡ x → solution-said (e .answer) ≡ fault x
+    go : (x : Outcome) → outcome (last a τ) (kept a τ) (joined us) ≡ x → solution-said (e .answer) ≡ fault x
     go (gives s) g = ap solution-said (tells .accepted s g)
     go (refused f) g = ap solution-said (tells .refusal f g)

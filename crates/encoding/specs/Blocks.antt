@@ -6,7 +6,8 @@ use native.Mathlib.Omega.{arith}
 use lib.Arith.{digits-div, digits-mod, digits-lt}
 use Rattle.encoding.specs.Variables.{Task, Var, mark, path, Present, transition-marks, all-paths}
 use Rattle.encoding.specs.Decoding.{valuation}
-use Rattle.encoding.specs.Numbering.{MarkLaws, PathLaws, AnyMarks, split}
+use Rattle.encoding.specs.Named.{AnyMarks}
+use Rattle.encoding.specs.Numbering.{MarkLaws, PathLaws, split}
 
 module _ (T : Task) where
   abbrev r : ℕ

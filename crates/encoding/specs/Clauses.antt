@@ -1,4 +1,4 @@
--- DEFINITIONS, 2 of 2: the clause file, what satisfies it, and the table that is decoded. Document 01, "Clauses, in this order" and "The
+-- DEFINITIONS, 2 of 3: the clause file, what satisfies it, and the table that is decoded. Document 01, "Clauses, in this order" and "The
 -- words of demand 3", whose words and letters stand in quotes.
 use mathlib.Core.Path.{_≡_}
 use mathlib.Core.Bool.{Bool, true, false, not, _&&_, cond, xor}
@@ -9,7 +9,7 @@ use lib.IntN.{ℤ, pos, negsuc, negℤ}
 use Rattle.meaning.specs.Automata.{Aut, WellFormed}
 use Rattle.meaning.specs.Agreement.{Agree}
 use Rattle.meaning.specs.BitSet.{bit, has}
-use Rattle.encoding.specs.Variables.{Task, Var, step, mark, path, base, base-number}
+use Rattle.encoding.specs.Variables.{Task, Var, step, mark, path}
 
 -- ---- loops
 
@@ -125,10 +125,6 @@ module _ (T : Task) (num : Var → ℕ) where
   -- "Clauses with a literal and its negative stay in."
   unfoldable pub file : List (List ℤ)
   file = group₁ ++ (group₂ ++ (group₃ ++ group₄))
-
--- Document 01's file. "The header is `p cnf V C`": V is `base-variables`, and C the length of this list.
-abbrev pub base-file : Aut → ℕ → ℕ → List (List ℤ)
-base-file R n m = file (base R n m) (base-number R n m)
 
 -- ---- "The words of demand 3"
 

@@ -1,5 +1,6 @@
 pub mod Variables
 pub mod Clauses
+pub mod Named
 pub mod SameTables
 pub mod Loops
 pub mod MarkSets
@@ -20,4 +21,4 @@ pub mod Sound
 pub mod Paths
 pub mod Complete
 pub mod Theorem
-pub mod Base
+pub mod NamedFile

@@ -12,10 +12,6 @@ use Rattle.encoding.specs.Variables.{Task, Var, step, mark, path, Presen
 use Rattle.encoding.specs.Clauses.{Assignment, decoded}
 use Rattle.encoding.specs.Decoding.{valuation}
 
--- marks of any kind
-abbrev pub AnyMarks : (ℕ → ℕ → ℕ → Bool) → Type 0
-AnyMarks μ = Unit {0}
-
 -- The numbers of the variables that there are run from 1 to the last, without a gap. `Kind` tells which marks a table of this file can have: those
 -- that are decoded are of the kind, and such a table says the same of a variable and of the one that its number leads back to.
 pub record Numbering (T : Task) (num : Var → ℕ) (last : ℕ) (Kind : (ℕ → ℕ → ℕ → Bool) → Type 0) : Type 0 where

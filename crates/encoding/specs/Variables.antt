@@ -1,10 +1,9 @@
--- DEFINITIONS, 1 of 2: the variables of a clause file and their numbers. Document 01, "Variables, from 1", whose words and letters stand in
+-- DEFINITIONS, 1 of 3: the variables of a clause file and their numbers. Document 01, "Variables, from 1", whose words and letters stand in
 -- quotes. They are those of S. Baarir and A. Duret-Lutz, "SAT-based Minimization of Deterministic ω-Automata" (LPAR 2015), section 2.2.
 use mathlib.Core.Path.{_≡_}
 use mathlib.Core.Bool.{Bool, true}
 use Prim.Native.Nat.{ℕ, _+_, _*_, _^_, _<_}
 use Rattle.meaning.specs.Automata.{Aut}
-use Rattle.meaning.specs.Tests.{all}
 
 -- ---- what a clause file is made for
 
@@ -15,10 +14,6 @@ pub record Task : Type 0 where
   pub m : ℕ
   pub accept : (ℕ → Bool) → Bool
   pub kept : ℕ → ℕ → Bool
-
--- Document 01's: the candidate accepts "if every set is met infinitely often", and there are path variables between any two reference states.
-abbrev pub base : Aut → ℕ → ℕ → Task
-base R n m = record { reference = R; n = n; m = m; accept = all m; kept = λ u v. true }
 
 -- ---- "Variables, from 1"
 
@@ -80,10 +75,3 @@ module _ (T : Task) where
   -- "V, the last"
   abbrev pub variables : MarkBlock → PathBlock → ℕ
   variables M P = n * n * L + M .size + P .size
-
--- document 01's numbers, and its V
-abbrev pub base-number : Aut → ℕ → ℕ → Var → ℕ
-base-number R n m = number (base R n m) (transition-marks (base R n m)) (all-paths (base R n m))
-
-abbrev pub base-variables : Aut → ℕ → ℕ → ℕ
-base-variables R n m = variables (base R n m) (transition-marks (base R n m)) (all-paths (base R n m))

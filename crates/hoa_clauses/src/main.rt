@@ -1,4 +1,5 @@
 // Prints the clause file for the reference on standard input and the candidate's numbers of states and sets.
+use clause_sizes::Target;
 use console_clauses::print_file;
 use console_input::TEXT;
 use console_input::from_input;
@@ -27,7 +28,11 @@ fn main() {
         return;
     }
     let reference = given.automaton;
-    print_file(reference, n as usize, m as usize);
+    let target = Target {
+        states: n as usize,
+        sets: m as usize,
+    };
+    print_file(reference, target);
 }
 
 fn usage() {

@@ -1,5 +1,6 @@
 // Prints the automaton that the solver's output on standard input describes, compared with the reference.
 use automaton::Automaton;
+use clause_sizes::Target;
 use compare::Comparison;
 use console_input::TEXT;
 use console_input::from_argument;
@@ -36,22 +37,25 @@ fn main() {
         return;
     }
     let reference = given.automaton;
-    print_decoded(reference, n as usize, m as usize);
+    let target = Target {
+        states: n as usize,
+        sets: m as usize,
+    };
+    print_decoded(reference, target);
 }
 
 fn usage() {
     console_print::usage(b"hoa_decode REFERENCE N M < SOLVER-OUTPUT");
 }
 
-fn print_decoded(reference: Automaton, n: usize, m: usize) {
+fn print_decoded(reference: Automaton, target: Target) {
     let mut prefix = [0u8; Comparison::PREFIX];
     let mut cycle = [0u8; Comparison::LOOP];
     let told = console_answers::read(
         STDIN_FILENO,
         b"standard input",
         reference,
-        n,
-        m,
+        target,
         &mut prefix,
         &mut cycle,
     );

@@ -1,5 +1,6 @@
 // Replays solver answers to the search for fewer states, and prints the next question, or the best table once it is finished.
 use automaton::Automaton;
+use clause_sizes::Target;
 use compare::Comparison;
 use console_input::TEXT;
 use console_input::from_argument;
@@ -88,15 +89,11 @@ fn take_text(search: Search, fd: i32, path: &[u8]) -> Replayed {
     let mut prefix = [0u8; Comparison::PREFIX];
     let mut cycle = [0u8; Comparison::LOOP];
     let reference = search.reference;
-    let told = console_answers::read(
-        fd,
-        path,
-        reference,
-        search.n,
-        search.m,
-        &mut prefix,
-        &mut cycle,
-    );
+    let target = Target {
+        states: search.n,
+        sets: search.m,
+    };
+    let told = console_answers::read(fd, path, reference, target, &mut prefix, &mut cycle);
     if !told.whole {
         return stopped(search);
     }

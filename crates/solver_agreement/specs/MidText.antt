@@ -12,7 +12,8 @@ use Rattle.automaton.specs.declared.Automaton.{Automaton}
 use Rattle.refusals.specs.declared.Refusal.{Refusal}
 use Rattle.refusals.specs.declared.Refusal.the-variants.{SolverForm}
 use Rattle.automaton.specs.Value.{Valid}
-use Rattle.clause_sizes.specs.Sizes.{Dimensioned}
+use Rattle.clause_sizes.specs.declared.Target.{Target}
+use Rattle.clause_sizes.specs.Targets.{Dimensioned, last, kept}
 use Rattle.solver_text.specs.declared.Reader.{Reader}
 use Rattle.solver_text.specs.declared.Reply.{Reply}
 use Rattle.solver_text.specs.declared.Answer.the-variants.{Refused}
@@ -22,7 +23,7 @@ use Rattle.solver_scan.specs.declared.Place.the-variants.{BadForm, BadLiteral}
 use Rattle.solver_scan.specs.SolverText.{Outcome, gives, refused, outcome, Bytes, AllRefused}
 use Rattle.solver_scan.specs.Scanning.{bad, byPlace, refusedAt, atLimit, scanByte, scanEndAt}
 use Rattle.solver_text.specs.Machine.{at-rest, inLiteral, landed, step, run, endAt, end, answerAt, told, fresh}
-use Rattle.solver_text.specs.Calls.{Called, Reads, joined, RefusedExactly, last, kept}
+use Rattle.solver_text.specs.Calls.{Called, Reads, joined, RefusedExactly}
 use Rattle.solver_scan.specs.Cases.{by, clash}
 use Rattle.solver_agreement.specs.Counts.{kept-le, last-le}
 use Rattle.solver_agreement.specs.Landing.{limit-step}
@@ -138,10 +139,10 @@ module _ (last kept : ℕ) (small : last ≤ 200000000) (fits : kept ≤ 5120) (
       refused-here = refusedAt (run last kept fresh text .scan .place)
 
 -- for a fresh reader and calls with any pieces: what the call with the next piece is answered
-pub piece-refused-exactly : {a : Automaton} {n m : ℕ} → Valid a → Dimensioned n m → {us : List (List ℕ)} {q : Reader} {e : Reply} → Reads a n m fresh us q
-    → (u : List ℕ) → Called a n m q (told (run (last a n m) (kept a n m) q u)) e → RefusedExactly (last a n m) (kept a n m) (joined us ++ u) (e .answer)
-piece-refused-exactly {a} {n} {m} v z {us} {q} {e} k u c =
-    let L = last a n m in
-    let K = kept a n m in
+pub piece-refused-exactly : {a : Automaton} {τ : Target} → Valid a → Dimensioned τ → {us : List (List ℕ)} {q : Reader} {e : Reply} → Reads a τ fresh us q
+    → (u : List ℕ) → Called a τ q (told (run (last a τ) (kept a τ) q u)) e → RefusedExactly (last a τ) (kept a τ) (joined us ++ u) (e .answer)
+piece-refused-exactly {a} {τ} v z {us} {q} {e} k u c =
+    let L = last a τ in
+    let K = kept a τ in
     let now : e ≡ told (run L K fresh (joined us ++ u)) = c .text v (reads-range v z k) z ∙ ap (λ y. told (run L K y u)) (reads-run v z k) ∙ ap told (sym (run-append L K fresh (joined us) u)) in
     subst (λ y. RefusedExactly L K (joined us ++ u) (y .answer)) (sym now) (refused-exactly L K (omega (arith, last-le v z)) (kept-le v z) (joined us ++ u))

@@ -8,6 +8,8 @@ use Rattle.automaton.specs.declared.Automaton.{Automaton}
 use Rattle.refusals.specs.declared.Refusal.{Refusal}
 use Rattle.refusals.specs.declared.Refusal.the-variants.{SolverForm, Literal}
 use Rattle.automaton.specs.Value.{Valid}
+use Rattle.clause_sizes.specs.declared.Target.{Target}
+use Rattle.clause_sizes.specs.Targets.{Dimensioned, last, kept}
 use Rattle.solver_text.specs.declared.Reader.{Reader}
 use Rattle.solver_text.specs.declared.Reply.{Reply}
 use Rattle.solver_text.specs.declared.Answer.the-variants.{Accepted, Refused}
@@ -16,8 +18,7 @@ use Rattle.solver_scan.specs.declared.Place.{Place}
 use Rattle.solver_scan.specs.declared.Place.the-variants.{Start, Comment, AfterS, BeforeWord, Word, AfterWord, AfterToken, BeforeToken, AfterMinus, Digits, Ended, BadForm, BadLiteral}
 use Rattle.solver_scan.specs.SolverText.{Seen, Outcome, gives, refused, outcome}
 use Rattle.solver_text.specs.Machine.{at-rest, step, run, end, answerAt, fresh}
-use Rattle.clause_sizes.specs.Sizes.{Dimensioned}
-use Rattle.solver_text.specs.Calls.{InRange, Reads, none, piece, Ends, joined, last, kept}
+use Rattle.solver_text.specs.Calls.{InRange, Reads, none, piece, Ends, joined}
 use Rattle.solver_scan.specs.Cases.{clash}
 use Rattle.solver_agreement.specs.Counts.{kept-le, last-le}
 use Rattle.solver_agreement.specs.Range.{run-kept}
@@ -28,13 +29,13 @@ pub run-append : (last kept : ℕ) (r : Reader) (u w : List ℕ) → run last ke
 run-append last kept r [] w = refl
 run-append last kept r (b ∷ u) w = run-append last kept (step last kept (r .scan) (r .named) b) u w
 
-module _ {a : Automaton} {n m : ℕ} (v : Valid a) (z : Dimensioned n m) where
+module _ {a : Automaton} {τ : Target} (v : Valid a) (z : Dimensioned τ) where
   -- for every list of pieces, and from every state in its ranges
-  pub pieces : {r q : Reader} {us : List (List ℕ)} → InRange r → Reads a n m r us q → q ≡ run (last a n m) (kept a n m) r (joined us)
+  pub pieces : {r q : Reader} {us : List (List ℕ)} → InRange r → Reads a τ r us q → q ≡ run (last a τ) (kept a τ) r (joined us)
   pieces h none = refl
   pieces {r} h (piece {u} {e} {us} c k) =
-      let L = last a n m in
-      let K = kept a n m in
+      let L = last a τ in
+      let K = kept a τ in
       let after : e .reader ≡ run L K r u = ap (λ x. x .reader) (c .text v h z) in
       pieces (subst InRange (sym after) (run-kept L K r u h)) k ∙ ap (λ x. run L K x (joined us)) after ∙ sym (run-append L K r u (joined us))
 
@@ -48,12 +49,12 @@ zeros (suc n) (suc i) = zeros n i
 pub fresh-range : InRange fresh
 fresh-range = record { letters-le = omega arith; value-le = omega arith; named-le = λ v h. omega (arith, zeros 5121 v) }
 
-module _ {a : Automaton} {n m : ℕ} (v : Valid a) (z : Dimensioned n m) {us : List (List ℕ)} {q : Reader} (k : Reads a n m fresh us q) where
-  pub reads-run : q ≡ run (last a n m) (kept a n m) fresh (joined us)
+module _ {a : Automaton} {τ : Target} (v : Valid a) (z : Dimensioned τ) {us : List (List ℕ)} {q : Reader} (k : Reads a τ fresh us q) where
+  pub reads-run : q ≡ run (last a τ) (kept a τ) fresh (joined us)
   reads-run = pieces v z fresh-range k
 
   pub reads-range : InRange q
-  reads-range = subst InRange (sym reads-run) (run-kept (last a n m) (kept a n m) fresh (joined us) fresh-range)
+  reads-range = subst InRange (sym reads-run) (run-kept (last a τ) (kept a τ) fresh (joined us) fresh-range)
 
 -- ---- the reply at the end
 
@@ -105,11 +106,11 @@ module _ (kept : ℕ) where
   tells BadLiteral s t x p e = failed-tells (at-rest s t) (Literal (s .at)) x e
 
 -- "Text may arrive cut anywhere; the answer is that of the whole text": a fresh reader, calls with any pieces, and the end
-pub whole-text : {a : Automaton} {n m : ℕ} → Valid a → Dimensioned n m → {us : List (List ℕ)} {q : Reader} {e : Reply} → Reads a n m fresh us q → Ends a n m q e
-    → Tells (kept a n m) (outcome (last a n m) (kept a n m) (joined us)) e
-whole-text {a} {n} {m} v z {us} {q} {e} k c =
-    let L = last a n m in
-    let K = kept a n m in
+pub whole-text : {a : Automaton} {τ : Target} → Valid a → Dimensioned τ → {us : List (List ℕ)} {q : Reader} {e : Reply} → Reads a τ fresh us q → Ends a τ q e
+    → Tells (kept a τ) (outcome (last a τ) (kept a τ) (joined us)) e
+whole-text {a} {τ} v z {us} {q} {e} k c =
+    let L = last a τ in
+    let K = kept a τ in
     let at : q ≡ run L K fresh (joined us) = reads-run v z k in
     let h : InRange q = reads-range v z k in
     let r = end L K q in

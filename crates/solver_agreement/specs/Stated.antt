@@ -7,6 +7,8 @@ use lib.Dec.{eqb}
 use lib.ListN.{getD}
 use Rattle.automaton.specs.declared.Automaton.{Automaton}
 use Rattle.automaton.specs.Value.{Valid}
+use Rattle.clause_sizes.specs.declared.Target.{Target}
+use Rattle.clause_sizes.specs.Targets.{Dimensioned, last, kept}
 use Rattle.solver_text.specs.declared.Reader.{Reader}
 use Rattle.solver_text.specs.declared.Reply.{Reply}
 use Rattle.solver_text.specs.declared.Answer.the-variants.{Accepted}
@@ -14,8 +16,7 @@ use Rattle.solver_scan.specs.declared.Place.the-variants.{Ended}
 use Rattle.solver_scan.specs.declared.Verdict.the-variants.{Satisfiable}
 use Rattle.solver_agreement.specs.Assignment.{States}
 use Rattle.solver_text.specs.Machine.{fresh}
-use Rattle.clause_sizes.specs.Sizes.{Dimensioned}
-use Rattle.solver_text.specs.Calls.{Reads, Ends, joined, last, kept}
+use Rattle.solver_text.specs.Calls.{Reads, Ends, joined}
 use Rattle.solver_agreement.specs.Counts.{kept-le}
 use Rattle.solver_agreement.specs.Table.{table-asserted}
 use Rattle.solver_agreement.specs.Pieces.{whole-text}
@@ -27,9 +28,9 @@ pub record Holds (kept : ℕ) (assignment : ℕ → Bool) (e : Reply) : Type 0 w
   pub verdict : e .reader .scan .verdict ≡ Satisfiable
   pub named : (v : ℕ) → 0 < v → v ≤ kept → eqb (getD (e .reader .named) v 0) 1 ≡ assignment v
 
-pub stated : {a : Automaton} {n m : ℕ} → Valid a → Dimensioned n m → {us : List (List ℕ)} {q : Reader} {e : Reply} → Reads a n m fresh us q → Ends a n m q e
-    → {assignment : ℕ → Bool} → States (last a n m) (kept a n m) (joined us) assignment → Holds (kept a n m) assignment e
-stated {a} {n} {m} v z {us} {q} {e} k c s =
+pub stated : {a : Automaton} {τ : Target} → Valid a → Dimensioned τ → {us : List (List ℕ)} {q : Reader} {e : Reply} → Reads a τ fresh us q → Ends a τ q e
+    → {assignment : ℕ → Bool} → States (last a τ) (kept a τ) (joined us) assignment → Holds (kept a τ) assignment e
+stated {a} {τ} v z {us} {q} {e} k c s =
     let t = whole-text v z k c in
     record {
       accepted = t .accepted (s .seen) (s .accepted);
@@ -37,5 +38,5 @@ stated {a} {n} {m} v z {us} {q} {e} k c s =
       verdict = t .verdict (s .seen) (s .accepted) ∙ s .verdict;
       named = λ i h g.
           ap (λ l. eqb (getD l i 0) 1) (t .named (s .seen) (s .accepted))
-          ∙ table-asserted (kept a n m) (kept-le v z) (s .seen .literals) i g ∙ sym (s .named i h g);
+          ∙ table-asserted (kept a τ) (kept-le v z) (s .seen .literals) i g ∙ sym (s .named i h g);
     }

@@ -1,8 +1,8 @@
 -- What a call is answered, by what was judged before it.
 use mathlib.Core.Path.{_≡_, sym, subst}
-use Prim.Native.Nat.{ℕ}
 use Rattle.automaton.specs.declared.Automaton.{Automaton}
 use Rattle.refusals.specs.declared.Refusal.{Refusal}
+use Rattle.clause_sizes.specs.declared.Target.{Target}
 use Rattle.clause_sizes.specs.declared.Sizes.{Sizes}
 use Rattle.clause_sizes.specs.declared.Sized.{Sized}
 use Rattle.clause_sizes.specs.declared.Sized.the-variants.{Of, Refused}
@@ -14,19 +14,19 @@ use Rattle.solver_text.specs.Calls.{InRange, Called, refusal}
 use Rattle.solver_text.specs.Answered.{called, called-text}
 use Rattle.solver_text.specs.Objection.{state, call, Judged}
 
-module _ (a : Automaton) (n m : ℕ) (r : Reader) where
+module _ (a : Automaton) (τ : Target) (r : Reader) where
   -- a state in its ranges, and what was measured
-  pub judged : InRange r → (x : Sized) → Sizing a n m x → Judged a n m r x
+  pub judged : InRange r → (x : Sized) → Sizing a τ x → Judged a τ r x
   judged h (Of z) (v, d, e) = (h, v, d, e)
   judged h (Refused f) s = call h s
 
-  pub judged-fits : {z : Sizes} → Judged a n m r (Of z) → Fitting z
+  pub judged-fits : {z : Sizes} → Judged a τ r (Of z) → Fitting z
   judged-fits (h, v, d, e) = subst Fitting (sym e) (sizes-fit v d)
 
-  pub called-read : {z : Sizes} {read e : Reply} → Judged a n m r (Of z) → e ≡ read → Called a n m r read e
+  pub called-read : {z : Sizes} {read e : Reply} → Judged a τ r (Of z) → e ≡ read → Called a τ r read e
   called-read (h, v, d, s) q = called-text v h d q
 
-  pub called-refused : {f : Refusal} {read e : Reply} → Judged a n m r (Refused f) → e ≡ refusal f r → Called a n m r read e
+  pub called-refused : {f : Refusal} {read e : Reply} → Judged a τ r (Refused f) → e ≡ refusal f r → Called a τ r read e
   called-refused (state k) q = called (λ v. q) (λ s. q) (λ v s z. absurd (k s)) (λ v s z. absurd (k s))
   called-refused (call h (outside k)) q = called (λ v. q) (λ s. q) (λ v s z. absurd (k v)) (λ v s z. absurd (k v))
   called-refused (call h (dimensions v k)) q = called (λ i. absurd (i v)) (λ s. absurd (s h)) (λ v s z. q) (λ v s z. absurd (k z))

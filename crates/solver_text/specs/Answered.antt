@@ -1,17 +1,17 @@
 -- A call by its rows, and the numbers that they return.
 use mathlib.Core.Path.{_≡_, ap, _∙_}
-use Prim.Native.Nat.{ℕ}
 use Rattle.automaton.specs.declared.Automaton.{Automaton}
 use Rattle.refusals.specs.declared.Refusal.the-variants.{Outside, Dimensions}
 use Rattle.automaton.specs.Value.{Valid}
-use Rattle.clause_sizes.specs.Sizes.{Dimensioned}
+use Rattle.clause_sizes.specs.declared.Target.{Target}
+use Rattle.clause_sizes.specs.Targets.{Dimensioned}
 use Rattle.solver_text.specs.declared.Reader.{Reader}
 use Rattle.solver_text.specs.declared.Reply.{Reply}
 use Rattle.solver_text.specs.Calls.{InRange, returned, refusal, Called}
 
-module _ {a : Automaton} {n m : ℕ} {r : Reader} {read e : Reply} where
+module _ {a : Automaton} {τ : Target} {r : Reader} {read e : Reply} where
   pub called : ((Valid a → ⊥) → e ≡ refusal Outside r) → ((InRange r → ⊥) → e ≡ refusal Outside r)
-      → (Valid a → InRange r → (Dimensioned n m → ⊥) → e ≡ refusal (Dimensions n m) r) → (Valid a → InRange r → Dimensioned n m → e ≡ read) → Called a n m r read e
+      → (Valid a → InRange r → (Dimensioned τ → ⊥) → e ≡ refusal (Dimensions (τ .states) (τ .sets)) r) → (Valid a → InRange r → Dimensioned τ → e ≡ read) → Called a τ r read e
   called automaton state sizes text = record {
     automaton = automaton;
     state = state;
@@ -28,5 +28,5 @@ module _ {a : Automaton} {n m : ℕ} {r : Reader} {read e : Reply} where
   }
 
   -- a call that reads
-  pub called-text : Valid a → InRange r → Dimensioned n m → e ≡ read → Called a n m r read e
+  pub called-text : Valid a → InRange r → Dimensioned τ → e ≡ read → Called a τ r read e
   called-text v h d q = called (λ k. absurd (k v)) (λ k. absurd (k h)) (λ _ _ k. absurd (k d)) (λ _ _ _. q)

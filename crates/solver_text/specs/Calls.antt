@@ -11,9 +11,8 @@ use Rattle.refusals.specs.declared.Refusal.{Refusal}
 use Rattle.refusals.specs.declared.Refusal.the-variants.{Outside, Dimensions, SolverForm, Literal}
 use Rattle.refusals.specs.Refused.{row, codeOf}
 use Rattle.automaton.specs.Value.{Valid}
-use Rattle.automaton.specs.View.{view}
-use Rattle.encoding.specs.Variables.{base-variables}
-use Rattle.clause_sizes.specs.Sizes.{Dimensioned, sizesOf}
+use Rattle.clause_sizes.specs.declared.Target.{Target}
+use Rattle.clause_sizes.specs.Targets.{Dimensioned, last, kept}
 use Rattle.solver_text.specs.declared.Reader.{Reader}
 use Rattle.solver_text.specs.declared.Reply.{Reply}
 use Rattle.solver_text.specs.declared.Answer.{Answer}
@@ -21,15 +20,7 @@ use Rattle.solver_text.specs.declared.Answer.the-variants.{Accepted, Ref
 use Rattle.solver_scan.specs.SolverText.{AllRefused}
 use Rattle.solver_text.specs.Machine.{told, run, end}
 
--- "after the nnL steps .. after those nnLm marks": the step and mark variables are those up to this number
-abbrev pub kept : Automaton → ℕ → ℕ → ℕ
-kept a n m = sizesOf a n m .marks
-
--- V
-abbrev pub last : Automaton → ℕ → ℕ → ℕ
-last a n m = base-variables (view a) n m
-
--- the ranges of the fields, which do not depend on n and m: no verdict has more than 13 letters, no number of a literal is kept past
+-- the ranges of the fields, which do not depend on the target: no verdict has more than 13 letters, no number of a literal is kept past
 -- 2,000,000,009, and a variable is not named (0), true (1) or false (2)
 pub record InRange (r : Reader) : Type 0 where
   pub letters-le : r .scan .letters ≤ 13
@@ -42,35 +33,35 @@ returned Accepted = no-code
 returned (Refused x) = some (codeOf x)
 
 -- what a call returns, by document 01's rows: 4 for the automaton and the state, 8, and 9 and 10 where reading gives them
-pub record Returns (a : Automaton) (n m : ℕ) (r : Reader) (read : Reply) (returns : Option Code) : Type 0 where
+pub record Returns (a : Automaton) (τ : Target) (r : Reader) (read : Reply) (returns : Option Code) : Type 0 where
   pub automaton : (Valid a → ⊥) → returns ≡ some (row 4 0 0)
   pub state : (InRange r → ⊥) → returns ≡ some (row 4 0 0)
-  pub sizes : Valid a → InRange r → (Dimensioned n m → ⊥) → returns ≡ some (row 8 n m)
-  pub form : Valid a → InRange r → Dimensioned n m → (offset : ℕ) → read .answer ≡ Refused (SolverForm offset) → returns ≡ some (row 9 offset 0)
-  pub literal : Valid a → InRange r → Dimensioned n m → (offset : ℕ) → read .answer ≡ Refused (Literal offset) → returns ≡ some (row 10 offset 0)
-  pub accepted : Valid a → InRange r → Dimensioned n m → read .answer ≡ Accepted → returns ≡ no-code
+  pub sizes : Valid a → InRange r → (Dimensioned τ → ⊥) → returns ≡ some (row 8 (τ .states) (τ .sets))
+  pub form : Valid a → InRange r → Dimensioned τ → (offset : ℕ) → read .answer ≡ Refused (SolverForm offset) → returns ≡ some (row 9 offset 0)
+  pub literal : Valid a → InRange r → Dimensioned τ → (offset : ℕ) → read .answer ≡ Refused (Literal offset) → returns ≡ some (row 10 offset 0)
+  pub accepted : Valid a → InRange r → Dimensioned τ → read .answer ≡ Accepted → returns ≡ no-code
 
 -- a refusal that speaks of the call and leaves the state as it was
 abbrev pub refusal : Refusal → Reader → Reply
 refusal x r = record { answer = Refused x; reader = r }
 
 -- "4 for handed values, 8, then reading left to right": the reply e to a call with the state r, where `read` is what reading gives
-pub record Called (a : Automaton) (n m : ℕ) (r : Reader) (read e : Reply) : Type 0 where
+pub record Called (a : Automaton) (τ : Target) (r : Reader) (read e : Reply) : Type 0 where
   pub automaton : (Valid a → ⊥) → e ≡ refusal Outside r
   pub state : (InRange r → ⊥) → e ≡ refusal Outside r
-  pub sizes : Valid a → InRange r → (Dimensioned n m → ⊥) → e ≡ refusal (Dimensions n m) r
-  pub text : Valid a → InRange r → Dimensioned n m → e ≡ read
-  pub returns : Returns a n m r read (returned (e .answer))
+  pub sizes : Valid a → InRange r → (Dimensioned τ → ⊥) → e ≡ refusal (Dimensions (τ .states) (τ .sets)) r
+  pub text : Valid a → InRange r → Dimensioned τ → e ≡ read
+  pub returns : Returns a τ r read (returned (e .answer))
 
 -- "its own state goes likewise from piece to piece, empty ones too": calls with the pieces of a list, from the state r to the state q
-pub data Reads (a : Automaton) (n m : ℕ) : Reader → List (List ℕ) → Reader → Type 0 where
-  none : {r : Reader} → Reads a n m r [] r
-  piece : {r : Reader} {u : List ℕ} {e : Reply} {us : List (List ℕ)} {q : Reader} → Called a n m r (told (run (last a n m) (kept a n m) r u)) e
-      → Reads a n m (e .reader) us q → Reads a n m r (u ∷ us) q
+pub data Reads (a : Automaton) (τ : Target) : Reader → List (List ℕ) → Reader → Type 0 where
+  none : {r : Reader} → Reads a τ r [] r
+  piece : {r : Reader} {u : List ℕ} {e : Reply} {us : List (List ℕ)} {q : Reader} → Called a τ r (told (run (last a τ) (kept a τ) r u)) e
+      → Reads a τ (e .reader) us q → Reads a τ r (u ∷ us) q
 
 -- and the end of the text
-abbrev pub Ends : Automaton → ℕ → ℕ → Reader → Reply → Type 0
-Ends a n m q e = Called a n m q (told (end (last a n m) (kept a n m) q)) e
+abbrev pub Ends : Automaton → Target → Reader → Reply → Type 0
+Ends a τ q e = Called a τ q (told (end (last a τ) (kept a τ) q)) e
 
 -- the text that pieces make up
 abbrev pub joined : List (List ℕ) → List ℕ

@@ -5,6 +5,7 @@ use crate::Reply;
 use automaton::Automaton;
 use clause_sizes::Sized;
 use clause_sizes::Sizes;
+use clause_sizes::Target;
 use clause_sizes::last_variable;
 use clause_sizes::measure;
 use refusals::Refusal;
@@ -19,13 +20,13 @@ ghost use Rattle.solver_text.specs.Calls.{InRange, refusal};
 ghost use Rattle.solver_text.specs.Objection.{Judged};
 
 // 4 for the state or the automaton, 8; or the sizes of the file.
-pub fn judge(reader: Reader, reference: Automaton, n: usize, m: usize) -> Sized
-    ensures { λ r. ⌜ Judged reference n m reader r ⌝ }
+pub fn judge(reader: Reader, reference: Automaton, target: Target) -> Sized
+    ensures { λ r. ⌜ Judged reference target reader r ⌝ }
 {
     if !in_range(reader) {
         return Sized::Refused(Refusal::Outside);
     }
-    measure(reference, n, m)
+    measure(reference, target)
 }
 
 pub fn refused(x: Refusal, reader: Reader) -> Reply

@@ -2,12 +2,15 @@
 use automaton::Automaton;
 use call::Variables;
 use clause_sizes::Sized;
+use clause_sizes::Target;
 use refusals::Refusal;
 use solver_scan::Place;
 use solver_scan::Scan;
 use solver_scan::Verdict;
 ghost use mathlib.Core.Path.{_≡_};
-ghost use Rattle.solver_text.specs.Calls.{Called, last, kept};
+ghost use Rattle.clause_sizes.specs.Targets.{last, kept};
+ghost use Rattle.clause_sizes.specs.Targets.{last, kept};
+ghost use Rattle.solver_text.specs.Calls.{Called};
 ghost use Rattle.solver_text.specs.Machine.{fresh, run, end, told, at-rest, answerAt};
 
 mod call;
@@ -54,20 +57,20 @@ impl Reader {
     }
 
     // Reads a piece of the text, of any length. It is refused exactly where every text that begins so is.
-    pub fn read(self, reference: Automaton, n: usize, m: usize, piece: &[u8]) -> Reply
-        ensures { λ e. ⌜ Called reference n m self (told (run (last reference n m) (kept reference n m) self (now (piece .entry)))) e ⌝ }
+    pub fn read(self, reference: Automaton, target: Target, piece: &[u8]) -> Reply
+        ensures { λ e. ⌜ Called reference target self (told (run (last reference target) (kept reference target) self (now (piece .entry)))) e ⌝ }
     {
-        match call::judge(self, reference, n, m) {
+        match call::judge(self, reference, target) {
             Sized::Of(z) => read_piece(self, piece, call::variables_of(z)),
             Sized::Refused(x) => call::refused(x, self),
         }
     }
 
     // The text ends here.
-    pub fn finish(self, reference: Automaton, n: usize, m: usize) -> Reply
-        ensures { λ e. ⌜ Called reference n m self (told (end (last reference n m) (kept reference n m) self)) e ⌝ }
+    pub fn finish(self, reference: Automaton, target: Target) -> Reply
+        ensures { λ e. ⌜ Called reference target self (told (end (last reference target) (kept reference target) self)) e ⌝ }
     {
-        match call::judge(self, reference, n, m) {
+        match call::judge(self, reference, target) {
             Sized::Of(z) => end_text(self, call::variables_of(z)),
             Sized::Refused(x) => call::refused(x, self),
         }

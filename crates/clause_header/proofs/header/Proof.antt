@@ -2,6 +2,7 @@
 use mathlib.Core.Path.{subst}
 use Rattle.clause_header.specs.Header.{HeaderTotals}
 use Rattle.clause_sizes.specs.Measured.{sizing-of, sizing-refused, measured-of}
+use Rattle.clause_sizes.specs.Sizes.{targetOf}
 use Rattle.clause_header.proofs.Counting.{headed}
 use borrow.Author.Needs.{needs}
 use Rattle.clause_header.proofs.header.Statement.{statement}
@@ -21,7 +22,7 @@ enum-known-sized-2 c = search needs
 
 returns : tie.Need-returns
 returns c = let (v, i, q) = sizing-of (c .before .before .before .before .measure .ensures) (c .before .before .sized .given .1) in
-    headed _ _ _ (c .totals-of .result) v i (subst (λ z. HeaderTotals (c .before .before .before .before .before .args .reference) (z .candidate .states) (z .candidate .sets) (c .totals-of .result)) q (c .totals-of .ensures))
+    headed _ _ (c .totals-of .result) v i (subst (λ z. HeaderTotals (c .before .before .before .before .before .args .reference) (targetOf z) (c .totals-of .result)) q (c .totals-of .ensures))
 
 returns-2 : tie.Need-returns-2
 returns-2 c = sizing-refused (c .before .before .before .measure .ensures) (c .before .sized2 .given .1)

@@ -20,13 +20,13 @@ enum-known-answer : tie.Need-enum-known-answer
 enum-known-answer c = search needs
 
 returns-2 : tie.Need-returns-2
-returns-2 c = let a = c .before .before .before .before .before .before .args in line-none (a .reference) (a .n) (a .m) (a .position) (c .before .before .step .last .1 .1 .1 .1 .0) (c .before .before .step .result) (c .before .before .step .ensures) (a .text .now) (c .before .before .before .before .if1 .left) (c .match .keys2)
+returns-2 c = let a = c .before .before .before .before .before .before .args in line-none (a .reference) (a .target) (a .position) (c .before .before .step .last .1 .1 .1 .0) (c .before .before .step .result) (c .before .before .step .ensures) (a .text .now) (c .before .before .before .before .if1 .left) (c .match .keys2)
 
 array-share-prefix-clause : tie.Need-array-share-prefix-clause
-array-share-prefix-clause c = let a = c .before .before .before .before .before .before .before .before .args in clause-room (a .reference) (a .n) (a .m) (a .position) (c .before .before .before .before .step .last .1 .1 .1 .1 .0) (c .before .before .before .before .step .result) (c .before .before .before .before .step .ensures) (a .text .now) (c .before .before .before .before .before .before .if1 .left) (c .before .answer .given .1)
+array-share-prefix-clause c = let a = c .before .before .before .before .before .before .before .before .args in clause-room (a .reference) (a .target) (a .position) (c .before .before .before .before .step .last .1 .1 .1 .0) (c .before .before .before .before .step .result) (c .before .before .before .before .step .ensures) (a .text .now) (c .before .before .before .before .before .before .if1 .left) (c .before .answer .given .1)
 
 slice-aggregate-write-line : tie.Need-slice-aggregate-write-line
-slice-aggregate-write-line c = let a = c .before .before .before .before .before .before .before .before .before .args in sym (length-take-le _ _ (clause-room (a .reference) (a .n) (a .m) (a .position) (c .before .before .before .before .before .step .last .1 .1 .1 .1 .0) (c .before .before .before .before .before .step .result) (c .before .before .before .before .before .step .ensures) (a .text .now) (c .before .before .before .before .before .before .before .if1 .left) (c .before .before .answer .given .1)))
+slice-aggregate-write-line c = let a = c .before .before .before .before .before .before .before .before .before .args in sym (length-take-le _ _ (clause-room (a .reference) (a .target) (a .position) (c .before .before .before .before .before .step .last .1 .1 .1 .0) (c .before .before .before .before .before .step .result) (c .before .before .before .before .before .step .ensures) (a .text .now) (c .before .before .before .before .before .before .before .if1 .left) (c .before .before .answer .given .1)))
 
 write-line-requires : tie.Need-write-line-requires
 write-line-requires c κs = tt
@@ -35,7 +35,7 @@ same-length : tie.Need-same-length
 same-length c = search needs
 
 returns-3 : tie.Need-returns-3
-returns-3 c = let a = c .before .before .before .before .before .before .before .before .before .before .before .before .before .args in line-written (a .reference) (a .n) (a .m) (a .position) (c .before .before .before .before .before .before .before .before .before .step .last .1 .1 .1 .1 .0) (c .before .before .before .before .before .before .before .before .before .step .result) (c .before .before .before .before .before .before .before .before .before .step .ensures) (a .text .now) (c .before .before .before .before .before .before .before .before .before .before .before .if1 .left) (c .before .before .before .before .before .before .answer .given .1) (c .before .before .write-line .ensures)
+returns-3 c = let a = c .before .before .before .before .before .before .before .before .before .before .before .before .before .args in line-written (a .reference) (a .target) (a .position) (c .before .before .before .before .before .before .before .before .before .step .last .1 .1 .1 .0) (c .before .before .before .before .before .before .before .before .before .step .result) (c .before .before .before .before .before .before .before .before .before .step .ensures) (a .text .now) (c .before .before .before .before .before .before .before .before .before .before .before .if1 .left) (c .before .before .before .before .before .before .answer .given .1) (c .before .before .write-line .ensures)
 
 pub line-spec : {M : Type 1} → statement M
 line-spec =

@@ -21,7 +21,7 @@ returns-2 c = dimensions (c .before .before .before .valid .ensures .0 (not-fals
 measured-requires : tie.Need-measured-requires
 measured-requires c κs = let v = c .before .before .before .valid .ensures .0 (not-false _ (c .before .before .if1 .left)) in
     let d = c .before .dimensioned .ensures .0 (not-false _ (c .if2 .left)) in
-    (d .n-le, d .m-le, v .sets-le, v .propositions-le)
+    (d, v .sets-le, v .propositions-le)
 
 returns-3 : tie.Need-returns-3
 returns-3 c = (c .before .before .before .before .valid .ensures .0 (not-false _ (c .before .before .before .if1 .left)), c .before .before .dimensioned .ensures .0 (not-false _ (c .before .if2 .left)), c .measured .ensures)

@@ -2,6 +2,7 @@
 use mathlib.Core.Path.{refl, subst}
 use Rattle.clause_step.specs.Step.{short, outside, StepFound}
 use Rattle.clause_sizes.specs.Measured.{sizing-of, sizing-refused, measured-of}
+use Rattle.clause_sizes.specs.Sizes.{targetOf}
 use Rattle.clause_step.specs.Shared.{refused-sizes}
 use Rattle.clause_step.proofs.Laws.{stepped}
 use borrow.Author.Needs.{needs}
@@ -34,9 +35,9 @@ same-length c = c .before .find .kept .1 .1 .1 .0
 returns-3 : tie.Need-returns-3
 returns-3 c = let (v, i, q) = sizing-of (c .before .before .before .before .before .before .measure .ensures) (c .before .before .before .before .sized .given .1) in
     let a = c .before .before .before .before .before .before .before .before .before .args in
-    stepped (a .reference) (a .n) (a .m) (a .position) (a .clause .now) _ (c .before .find .result)
+    stepped (a .reference) (a .target) (a .position) (a .clause .now) _ (c .before .find .result)
     (record { room = omega arith; valid = v; in-range = omega arith; dimensioned = i })
-    (subst (λ z. StepFound (a .reference) (z .candidate .states) (z .candidate .sets) (a .position) (a .clause .now) (c .before .find .last .1 .1 .1 .0) (c .before .find .result .answer) (c .before .find .result .position)) q (c .before .find .ensures))
+    (subst (λ z. StepFound (a .reference) (targetOf z) (a .position) (a .clause .now) (c .before .find .last .1 .1 .1 .0) (c .before .find .result .answer) (c .before .find .result .position)) q (c .before .find .ensures))
 
 returns-4 : tie.Need-returns-4
 returns-4 c = (refused-sizes (omega arith) (omega arith) (sizing-refused (c .before .before .before .measure .ensures) (c .before .sized2 .given .1)), refl, refl)

@@ -2,6 +2,7 @@
 use mathlib.Core.Path.{refl, subst}
 use Rattle.clause_step.specs.Step.{short, outside}
 use Rattle.clause_sizes.specs.Measured.{sizing-of, sizing-refused, measured-of}
+use Rattle.clause_sizes.specs.Sizes.{targetOf}
 use Rattle.clause_step.specs.Shared.{refused-sizes}
 use Rattle.clause_text.specs.Answers.{BatchFound}
 use Rattle.clause_text.proofs.Answering.{batch-accepted}
@@ -34,9 +35,9 @@ same-length c = c .before .before .many-lines .kept .1 .1 .1 .0
 returns-3 : tie.Need-returns-3
 returns-3 c = let (v, i, q) = sizing-of (c .before .before .before .before .before .before .before .measure .ensures) (c .before .before .before .before .before .sized .given .1) in
     let a = c .before .before .before .before .before .before .before .before .before .before .before .args in
-    batch-accepted (a .reference) (a .n) (a .m) (a .position) (a .text .now) _ (c .before .before .many-lines .result)
+    batch-accepted (a .reference) (a .target) (a .position) (a .text .now) _ (c .before .before .many-lines .result)
     (record { room = omega arith; valid = v; in-range = omega arith; dimensioned = i })
-    (subst (λ z. BatchFound (a .reference) (z .candidate .states) (z .candidate .sets) (a .position) (a .text .now) (c .before .before .many-lines .last .1 .1 .1 .0) (c .before .before .many-lines .result .answer) (c .before .before .many-lines .result .position)) q (c .before .before .many-lines .ensures))
+    (subst (λ z. BatchFound (a .reference) (targetOf z) (a .position) (a .text .now) (c .before .before .many-lines .last .1 .1 .1 .0) (c .before .before .many-lines .result .answer) (c .before .before .many-lines .result .position)) q (c .before .before .many-lines .ensures))
 
 returns-4 : tie.Need-returns-4
 returns-4 c = (refused-sizes (omega arith) (omega arith) (sizing-refused (c .before .before .before .measure .ensures) (c .before .sized2 .given .1)), refl, refl)

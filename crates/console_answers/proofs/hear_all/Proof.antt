@@ -5,10 +5,10 @@ use Rattle.console_answers.proofs.hear_all.Statement.{statement}
 use Rattle.console_answers.proofs.hear_all.Tie as tie
 
 abbrev Inv-loop : tie.InvT-loop
-Inv-loop fd name reference n m heard₀ heard = SoFar reference n m heard
+Inv-loop fd name reference τ heard₀ heard = SoFar reference τ heard
 
 abbrev μ-loop : tie.MeasureT-loop
-μ-loop fd name reference n m heard₀ heard = ahead heard
+μ-loop fd name reference τ heard₀ heard = ahead heard
 
 fresh-requires : tie.Need-fresh-requires Inv-loop μ-loop
 fresh-requires c κs = tt

@@ -43,7 +43,7 @@ returns c =
     let b = c .before .before .before .before .before .before .before .before in
     let a = b .before .args in
     let p = b .before .pre in
-    written (a .reference) (a .n) (a .m) (a .position) (b .large-buffer .result) (l .last .1 .1 .1 .1 .0) (l .result) (l .ensures) (p .0) (p .1 .0) (p .1 .1) (b .large-buffer .ensures)
+    written (a .reference) (a .target) (a .position) (b .large-buffer .result) (l .last .1 .1 .1 .0) (l .result) (l .ensures) (p .0) (p .1 .0) (p .1 .1) (b .large-buffer .ensures)
     _ _ (c .before .before .before .answer .given .1) (c .print .ensures)
 
 returns-2 : tie.Need-returns-2
@@ -52,7 +52,7 @@ returns-2 c =
     let b = c .before .before .before .before .before in
     let a = b .before .args in
     let p = b .before .pre in
-    ended-now (a .reference) (a .n) (a .m) (a .position) (b .large-buffer .result) (l .last .1 .1 .1 .1 .0) (l .result) (l .ensures) (p .0) (p .1 .0) (p .1 .1) (b .large-buffer .ensures)
+    ended-now (a .reference) (a .target) (a .position) (b .large-buffer .result) (l .last .1 .1 .1 .0) (l .result) (l .ensures) (p .0) (p .1 .0) (p .1 .1) (b .large-buffer .ensures)
     (c .before .match .keys2)
 
 returns-3 : tie.Need-returns-3
@@ -61,7 +61,7 @@ returns-3 c =
     let b = c .before .before .before .before .before .before .before .before .before in
     let a = b .before .args in
     let p = b .before .pre in
-    never-refused (a .reference) (a .n) (a .m) (a .position) (b .large-buffer .result) (l .last .1 .1 .1 .1 .0) (l .result) (l .ensures) (p .0) (p .1 .0) (p .1 .1) (b .large-buffer .ensures)
+    never-refused (a .reference) (a .target) (a .position) (b .large-buffer .result) (l .last .1 .1 .1 .0) (l .result) (l .ensures) (p .0) (p .1 .0) (p .1 .1) (b .large-buffer .ensures)
     (c .before .before .before .before .answer2 .given .1)
 
 pub print-batch-spec : {M : Type 1} → statement M

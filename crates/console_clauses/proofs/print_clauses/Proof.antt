@@ -9,16 +9,16 @@ use Rattle.console_clauses.proofs.print_clauses.Statement.{statement}
 use Rattle.console_clauses.proofs.print_clauses.Tie as tie
 
 abbrev Inv-loop : tie.InvT-loop
-Inv-loop reference n m bytes₀ position₀ bytes position =
-    Begun reference n m bytes₀ position bytes × (bytes + 65536 * left reference n m position ≤ 80 + 65536 * 8657059969) × (position ≤ 8657059969)
+Inv-loop reference τ bytes₀ position₀ bytes position =
+    Begun reference τ bytes₀ position bytes × (bytes + 65536 * left reference τ position ≤ 80 + 65536 * 8657059969) × (position ≤ 8657059969)
 
 abbrev μ-loop : tie.MeasureT-loop
-μ-loop reference n m bytes₀ position₀ bytes position = left reference n m position
+μ-loop reference τ bytes₀ position₀ bytes position = left reference τ position
 
 returns : tie.Need-returns Inv-loop μ-loop
 returns c =
     let a = c .before .before .args in
-    nothing-behind (a .reference) (a .n) (a .m) (a .header) (not-true _ (c .if1 .taken))
+    nothing-behind (a .reference) (a .target) (a .header) (not-true _ (c .if1 .taken))
 
 fresh-requires : tie.Need-fresh-requires Inv-loop μ-loop
 fresh-requires c κs = tt
@@ -28,7 +28,7 @@ loop-holds c =
     let a = c .before .before .before .args in
     let p = c .before .before .before .pre in
     let k = a .header .length in (
-      subst (λ x. Begun (a .reference) (a .n) (a .m) k x k) (sym (c .fresh .ensures)) (begun (a .reference) (a .n) (a .m) k),
+      subst (λ x. Begun (a .reference) (a .target) k x k) (sym (c .fresh .ensures)) (begun (a .reference) (a .target) k),
       start-le (p .0) (p .1 .0) (p .1 .1) _,
       omega (arith, c .fresh .ensures),
     )
@@ -44,7 +44,7 @@ returns-2 c =
     let a = c .before .before .before .before .before .before .before .args in
     let l = c .before .before .before .loop .inv in
     let w = not-false _ (c .before .before .before .before .before .if1 .left) in
-    handed (a .reference) (a .n) (a .m) (l .0) (c .before .before .print-batch .ensures) (a .header) refl w _ refl
+    handed (a .reference) (a .target) (l .0) (c .before .before .print-batch .ensures) (a .header) refl w _ refl
 
 loop-less : tie.Need-loop-less Inv-loop μ-loop
 loop-less c = c .before .before .print-batch .ensures .fewer (not-false _ (c .if2 .left))
@@ -55,7 +55,7 @@ loop-again c =
     let l = c .before .before .before .loop .inv in
     let h = c .before .before .print-batch .ensures in
     let e = not-false _ (c .if2 .left) in
-    (begun-more (a .reference) (a .n) (a .m) (l .0) h e, omega (arith, l .1, h .most, h .fewer e), h .stays)
+    (begun-more (a .reference) (a .target) (l .0) h e, omega (arith, l .1, h .most, h .fewer e), h .stays)
 
 pub print-clauses-spec : {M : Type 1} → statement M
 print-clauses-spec =

@@ -9,8 +9,8 @@ use Rattle.decode.proofs.by_verdict.Tie as tie
 enum-told : tie.Need-enum-told
 enum-told c = search needs
 
-cast-t10 : tie.Need-cast-t10
-cast-t10 c = search needs
+cast-t9 : tie.Need-cast-t9
+cast-t9 c = search needs
 
 refused-requires : tie.Need-refused-requires
 refused-requires c κs = search needs
@@ -56,7 +56,7 @@ by-verdict-spec =
     tie.close
     (tie.spec
     enum-told
-    cast-t10
+    cast-t9
     refused-requires
     enum-told-2
     by-assignment-requires

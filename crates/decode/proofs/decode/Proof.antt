@@ -8,13 +8,13 @@ refused-requires : tie.Need-refused-requires
 refused-requires c κs = search needs
 
 returns : tie.Need-returns
-returns c = prefix-short _ _ _ _ _ _ (c .before .if1 .taken) (c .refused .ensures)
+returns c = prefix-short _ _ _ _ _ (c .before .if1 .taken) (c .refused .ensures)
 
 refused-requires-2 : tie.Need-refused-requires-2
 refused-requires-2 c κs = search needs
 
 returns-2 : tie.Need-returns-2
-returns-2 c = loop-short _ _ _ _ _ _ (c .before .before .if1 .left) (c .before .if2 .taken) (c .refused2 .ensures)
+returns-2 c = loop-short _ _ _ _ _ (c .before .before .if1 .left) (c .before .if2 .taken) (c .refused2 .ensures)
 
 finish-requires : tie.Need-finish-requires
 finish-requires c κs = search needs
@@ -38,10 +38,10 @@ same-length-2 : tie.Need-same-length-2
 same-length-2 c = search needs
 
 returns-3 : tie.Need-returns-3
-returns-3 c = accepted-answer _ _ _ _ _ _ (c .before .before .before .before .before .before .before .before .before .before .before .if1 .left) (c .before .before .before .before .before .before .before .before .before .before .if2 .left) (c .before .before .before .before .before .before .before .before .before .finish .ensures) (accepted-tag _ (c .before .before .before .before .before .before .before .before .match .keys1)) (c .before .before .before .before .by-verdict .ensures)
+returns-3 c = accepted-answer _ _ _ _ _ (c .before .before .before .before .before .before .before .before .before .before .before .if1 .left) (c .before .before .before .before .before .before .before .before .before .before .if2 .left) (c .before .before .before .before .before .before .before .before .before .finish .ensures) (accepted-tag _ (c .before .before .before .before .before .before .before .before .match .keys1)) (c .before .before .before .before .by-verdict .ensures)
 
 returns-4 : tie.Need-returns-4
-returns-4 c = refused-answer _ _ _ _ _ _ (c .before .before .before .before .before .before .if1 .left) (c .before .before .before .before .before .if2 .left) (c .before .before .before .before .finish .ensures) _ (c .before .before .answer .given .1) (c .refused3 .ensures)
+returns-4 c = refused-answer _ _ _ _ _ (c .before .before .before .before .before .before .if1 .left) (c .before .before .before .before .before .if2 .left) (c .before .before .before .before .finish .ensures) _ (c .before .before .answer .given .1) (c .refused3 .ensures)
 
 pub decode-spec : {M : Type 1} → statement M
 decode-spec =

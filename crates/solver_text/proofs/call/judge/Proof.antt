@@ -18,7 +18,7 @@ measure-requires : tie.Need-measure-requires
 measure-requires c κs = search needs
 
 returns-2 : tie.Need-returns-2
-returns-2 c = judged _ _ _ _ (c .before .before .in-range .ensures .0 (not-false _ (c .before .if1 .left))) (c .measure .result) (c .measure .ensures)
+returns-2 c = judged _ _ _ (c .before .before .in-range .ensures .0 (not-false _ (c .before .if1 .left))) (c .measure .result) (c .measure .ensures)
 
 pub judge-spec : {M : Type 1} → statement M
 judge-spec = tie.close (tie.spec in-range-requires returns measure-requires returns-2)

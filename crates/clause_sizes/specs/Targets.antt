@@ -1,0 +1,37 @@
+-- DEFINITIONS: what the caller names for a file beside the reference, as a value; and the clauses, the numbers and the variables of the file for a
+-- reference. Nothing above says what they are made of.
+use mathlib.Core.List.{List}
+use Prim.Native.Nat.{ℕ, _≤_}
+use lib.IntN.{ℤ}
+use Rattle.automaton.specs.declared.Automaton.{Automaton}
+use Rattle.automaton.specs.View.{view}
+use Rattle.encoding.specs.Variables.{Task, Var}
+use Rattle.encoding.specs.Named.{Named, taskFor, numberFor, variablesFor, tableVariablesFor, fileFor}
+use Rattle.clause_sizes.specs.declared.Target.{Target}
+
+abbrev pub named : Target → Named
+named τ = record { n = τ .states; m = τ .sets }
+
+-- "Candidate: n states (1 to 8), m sets (0 to 4)"
+pub record Dimensioned (τ : Target) : Type 0 where
+  pub n-some : 1 ≤ τ .states
+  pub n-le : τ .states ≤ 8
+  pub m-le : τ .sets ≤ 4
+
+module _ (a : Automaton) (τ : Target) where
+  abbrev pub task : Task
+  task = taskFor (view a) (named τ)
+
+  abbrev pub numbers : Var → ℕ
+  numbers = numberFor (view a) (named τ)
+
+  -- V
+  abbrev pub last : ℕ
+  last = variablesFor (view a) (named τ)
+
+  -- the step and mark variables are those up to this number
+  abbrev pub kept : ℕ
+  kept = tableVariablesFor (view a) (named τ)
+
+  abbrev pub file : List (List ℤ)
+  file = fileFor (view a) (named τ)
