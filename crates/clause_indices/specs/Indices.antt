@@ -5,10 +5,13 @@ use mathlib.Core.Bool.{cond}
 use mathlib.Core.List.{List, [], _∷_}
 use Prim.Native.Nat.{ℕ, _+_, _*_, _/_, _%_, _^_, _≤_, _<_}
 use lib.IntN.{ℤ, pos, negℤ}
+use lib.ListN.{length, getD}
 use Rattle.meaning.specs.BitSet.{has}
+use Rattle.decimal.specs.Wrote.{Wrote}
 use Rattle.encoding.specs.Variables.{step, mark, path}
 use Rattle.encoding.specs.Clauses.{each}
 use Rattle.clause_sizes.specs.declared.Sizes.{Sizes}
+use Rattle.clause_sizes.specs.Sizes.{Fitting}
 use Rattle.clause_sizes.specs.Numbers.{numberOf}
 use Rattle.clause_indices.specs.declared.Indices.{Indices}
 use Rattle.clause_indices.specs.declared.extent.Extent.{Extent}
@@ -28,6 +31,9 @@ pub record Within (z : Sizes) (x : Indices) : Type 0 where
   pub i-lt : x .i < 2 ^ z .candidate .sets
   pub j-lt : x .j < 2 ^ z .reference .sets
   pub k-lt : x .k < 2 ^ z .candidate .sets
+
+abbrev pub nowhere : Indices
+nowhere = record { q = record { 0 = 0 }; p = record { 0 = 0 }; t = record { 0 = 0 }; u = record { 0 = 0 }; v = record { 0 = 0 }; l = 0; i = 0; j = 0; k = 0 }
 
 module _ (z : Sizes) where
   abbrev n : ℕ
@@ -72,6 +78,11 @@ module _ (z : Sizes) where
         k = x % M;
       }
 
+-- on all input: the indices of position x of group 3, in their ranges, or all 0 where no file of these sizes has that position
+pub record IndicesIfAny (z : Sizes) (x : ℕ) (r : Indices) : Type 0 where
+  pub there : Fitting z → x < extensions z → (r ≡ extensionIndices z x) × Within z r
+  pub none : ¬ (Fitting z × (x < extensions z)) → r ≡ nowhere
+
 -- the positions of groups 1, 2 and 3, and all
 pub record ExtentOf (z : Sizes) (g : Extent) : Type 0 where
   pub first-is : g .first ≡ z .candidate .states * z .letters
@@ -79,6 +90,16 @@ pub record ExtentOf (z : Sizes) (g : Extent) : Type 0 where
   pub third-is : g .third ≡ extensions z
   pub all-is : g .all ≡ g .first + (g .second + (g .third + closures z))
   pub all-le : g .all ≤ 8_657_059_969
+
+-- on all input: those, or none where no file has these sizes
+pub record ExtentIfAny (z : Sizes) (g : Extent) : Type 0 where
+  pub there : Fitting z → ExtentOf z g
+  pub none : ¬ Fitting z → g ≡ record { first = 0; second = 0; third = 0; all = 0 }
+
+-- on all input: the entry of a table with 16 rows of 16 for the reference state u and the letter l, or 0 where it has no such entry
+pub record EntryIfAny (table : List ℕ) (u l r : ℕ) : Type 0 where
+  pub there : u < 16 → l < 16 → r ≡ getD table (u * 16 + l) 0
+  pub none : ¬ ((u < 16) × (l < 16)) → r ≡ 0
 
 -- "for each i ascending mark(p,l,i,t), negative if i is in K"
 abbrev pub markLiteral : Sizes → (p l t K i : ℕ) → ℤ
@@ -94,3 +115,8 @@ premiseOf z x =
     negℤ (pos (numberOf z (path (x .q .0) (x .u .0) (x .p .0) (x .v .0) (x .i) (x .j))))
     ∷ negℤ (pos (numberOf z (step (x .p .0) (x .l) (x .t .0))))
     ∷ marksOf z (x .p .0) (x .l) (x .t .0) (x .k) (z .candidate .sets)
+
+-- on all input: these at the start of the buffer, or nothing where no file of these sizes has the indices, or where there is no room
+pub record PremiseIfAny (z : Sizes) (x : Indices) (d e : List ℤ) (r : ℕ) : Type 0 where
+  pub there : Fitting z → Within z x → clauseRoom ≤ length d → Wrote d 0 (premiseOf z x) e r
+  pub none : ¬ (Fitting z × Within z x × (clauseRoom ≤ length d)) → (e ≡ d) × (r ≡ 0)

@@ -1,7 +1,8 @@
 // How many positions a file has.
 use clause_sizes::Sizes;
+use clause_sizes::fitting;
 ghost use Rattle.clause_sizes.specs.Sizes.{Fitting};
-ghost use Rattle.clause_indices.specs.Indices.{ExtentOf};
+ghost use Rattle.clause_indices.specs.Indices.{ExtentIfAny, ExtentOf};
 
 // How many positions groups 1, 2 and 3 have, and how many there are in all.
 pub struct Extent {
@@ -11,7 +12,22 @@ pub struct Extent {
     pub all: usize,
 }
 
+// None where no file has these sizes.
 pub fn extent_of(z: Sizes) -> Extent
+    ensures { λ r. ⌜ ExtentIfAny z r ⌝ }
+{
+    if !fitting(z) {
+        return Extent {
+            first: 0,
+            second: 0,
+            third: 0,
+            all: 0,
+        };
+    }
+    positions(z)
+}
+
+fn positions(z: Sizes) -> Extent
     requires { ⌜ Fitting z ⌝ }
     ensures { λ r. ⌜ ExtentOf z r ⌝ }
 {

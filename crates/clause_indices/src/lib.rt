@@ -3,8 +3,7 @@ use automaton::Automaton;
 use automaton::states::CandidateState;
 use automaton::states::ReferenceState;
 ghost use mathlib.Core.Path.{_≡_};
-ghost use Prim.Native.Nat.{_+_, _*_, _<_};
-ghost use lib.ListN.{getD};
+ghost use Rattle.clause_indices.specs.Indices.{EntryIfAny};
 
 pub mod extent;
 pub mod premise;
@@ -22,11 +21,19 @@ pub struct Indices {
     pub k: usize,
 }
 
-// The entry of a table for a reference state and a letter.
+// The literals that the longest clause has.
+pub const CLAUSE: usize = 8;
+
+// The entry of a table for a reference state and a letter, or 0 where a table has none.
 pub fn entry(table: &[u8; Automaton::CELLS], u: ReferenceState, l: usize) -> usize
-    requires { ⌜ (u .0 < 16) × (l < 16) ⌝ }
-    ensures { λ r. ⌜ r ≡ getD (now (table .entry)) (u .0 * 16 + l) 0 ⌝ }
+    ensures { λ r. ⌜ EntryIfAny (now (table .entry)) (u .0) l r ⌝ }
 {
+    if u.0 >= Automaton::STATES {
+        return 0;
+    }
+    if l >= Automaton::LETTERS {
+        return 0;
+    }
     wide(table[u.0 * Automaton::LETTERS + l])
 }
 

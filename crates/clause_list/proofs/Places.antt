@@ -14,9 +14,10 @@ use Rattle.decimal.specs.Wrote.{Wrote}
 use Rattle.clause_sizes.specs.declared.Sizes.{Sizes}
 use Rattle.clause_sizes.specs.Sizes.{Fitting}
 use Rattle.clause_indices.specs.declared.Indices.{Indices}
+use Rattle.clause_indices.specs.declared.extent.Extent.{Extent}
 use Rattle.clause_list.specs.declared.digits.Marking.{Marking}
 use Rattle.clause_list.specs.declared.digits.Transition.{Transition}
-use Rattle.clause_indices.specs.Indices.{Within, premiseOf, successors, extensionIndices}
+use Rattle.clause_indices.specs.Indices.{Within, ExtentIfAny, EntryIfAny, IndicesIfAny, premiseOf, successors, extensions, extensionIndices, nowhere}
 use Rattle.clause_list.specs.Groups.{Successive, successorOf, extensionOf}
 use Rattle.clause_list.specs.Tables.{StepsWithin, Tables}
 use Rattle.clause_list.specs.Digits.{MarkingOf, TransitionOf, closureIndices}
@@ -49,6 +50,10 @@ module _ (z : Sizes) where
     j = j;
     k = k;
   }
+
+-- a table's entry
+pub entry-is : {table : List ℕ} {u l r : ℕ} → (u < 16) × (l < 16) → EntryIfAny table u l r → r ≡ getD table (u * 16 + l) 0
+entry-is (hu, hl) e = e .there hu hl
 
 module _ {z : Sizes} where
   pub own-some : Fitting z → 0 < z .candidate .subsets
@@ -118,6 +123,12 @@ module _ {z : Sizes} where
       subst (λ c. Wrote d 0 c e r) (rw (q, t .v-is, t .l-is, t .rest-is))
 
   -- ---- group 3
+
+  pub third-lt : {x : ℕ} {g : Extent} → Fitting z → ExtentIfAny z g → x < g .third → x < extensions z
+  third-lt f e h = omega (arith, e .there f .third-is)
+
+  pub no-indices : {x : ℕ} {r : Indices} → ¬ (Fitting z × (x < extensions z)) → r ≡ nowhere → IndicesIfAny z x r
+  no-indices n e = record { there = λ f h. absurd (n (f, h)); none = λ _. e }
 
   pub indices-lt : {x : Indices} → Fitting z → Within z x → (x .v .0 < 16) × (x .l < 16)
   indices-lt f w = (omega (arith, w .v-lt, f .r-le), omega (arith, w .l-lt, f .letters-le))

@@ -6,8 +6,8 @@ use clause_indices::premise::premise;
 use clause_literals::negative;
 use clause_literals::positive;
 use clause_sizes::Sizes;
-use clause_variables::numbers::path_number;
-use clause_variables::numbers::step_number;
+use clause_variables::path_variable;
+use clause_variables::step_variable;
 ghost use Prim.Native.Nat.{_^_, _≤_, _<_};
 ghost use lib.ListN.{length};
 ghost use Rattle.decimal.specs.Wrote.{Wrote};
@@ -23,7 +23,7 @@ pub fn totality(z: Sizes, q: CandidateState, l: usize, out: &mut [i32]) -> usize
 {
     let mut p: usize = 0;
     while p < z.candidate.states {
-        out[p] = positive(step_number(z, q, l, CandidateState(p)));
+        out[p] = positive(step_variable(z, q, l, CandidateState(p)));
         p += 1;
     }
     p
@@ -35,7 +35,7 @@ pub fn initial(z: Sizes, start: ReferenceState, out: &mut [i32]) -> usize
     requires { ⌜ (start .0 < z .reference .states) × (clauseRoom ≤ length (now out)) ⌝ }
     ensures { λ r. ⌜ Wrote (now (out .entry)) 0 (initialOf z (start .0)) (now (out .exit)) r ⌝ }
 {
-    out[0] = positive(path_number(z, CandidateState(0), start, CandidateState(0), start, 0, 0));
+    out[0] = positive(path_variable(z, CandidateState(0), start, CandidateState(0), start, 0, 0));
     1
 }
 
@@ -54,9 +54,9 @@ pub fn successor(
     requires { ⌜ clauseRoom ≤ length (now out) ⌝ }
     ensures { λ r. ⌜ Wrote (now (out .entry)) 0 (successorOf z (q .0) (p .0) (u .0) l (w .0)) (now (out .exit)) r ⌝ }
 {
-    out[0] = negative(path_number(z, q, u, q, u, 0, 0));
-    out[1] = negative(step_number(z, q, l, p));
-    out[2] = positive(path_number(z, p, w, p, w, 0, 0));
+    out[0] = negative(path_variable(z, q, u, q, u, 0, 0));
+    out[1] = negative(step_variable(z, q, l, p));
+    out[2] = positive(path_variable(z, p, w, p, w, 0, 0));
     3
 }
 
@@ -68,6 +68,6 @@ pub fn extension(z: Sizes, x: Indices, w: ReferenceState, f: usize, out: &mut [i
     ensures { λ r. ⌜ Wrote (now (out .entry)) 0 (extensionOf z x (w .0) f) (now (out .exit)) r ⌝ }
 {
     let at = premise(z, x, out);
-    out[at] = positive(path_number(z, x.q, x.u, x.t, w, x.i | x.k, x.j | f));
+    out[at] = positive(path_variable(z, x.q, x.u, x.t, w, x.i | x.k, x.j | f));
     at + 1
 }

@@ -1,34 +1,40 @@
-// The indices of a position of group 3.
-use crate::digits::marking_at;
-use crate::digits::transition_at;
+// The indices of a position of group 3, on all input.
+use crate::digits::indices_of;
 use automaton::states::CandidateState;
 use automaton::states::ReferenceState;
 use clause_indices::Indices;
+use clause_indices::extent::extent_of;
 use clause_sizes::Sizes;
+use clause_sizes::fitting;
 ghost use mathlib.Core.Path.{_≡_};
-ghost use Prim.Native.Nat.{_<_};
-ghost use Rattle.clause_sizes.specs.Sizes.{Fitting};
-ghost use Rattle.clause_indices.specs.Indices.{Within, extensions, extensionIndices};
+ghost use Rattle.clause_indices.specs.Indices.{IndicesIfAny, nowhere};
 
-// Of position x of group 3.
+// Of position x of group 3; all 0 where no file of these sizes has that position.
 pub fn extension_indices(z: Sizes, x: usize) -> Indices
-    requires { ⌜ Fitting z × (x < extensions z) ⌝ }
-    ensures { λ r. ⌜ (r ≡ extensionIndices z x) × Within z r ⌝ }
+    ensures { λ r. ⌜ IndicesIfAny z x r ⌝ }
 {
-    let n = z.candidate.states;
-    let s = marking_at(z, x);
-    let a = transition_at(z, s.rest);
-    let v = a.v;
-    let y = a.rest / z.reference.states;
+    if !fitting(z) {
+        return nowhere();
+    }
+    let g = extent_of(z);
+    if x >= g.third {
+        return nowhere();
+    }
+    indices_of(z, x)
+}
+
+fn nowhere() -> Indices
+    ensures { λ r. ⌜ r ≡ nowhere ⌝ }
+{
     Indices {
-        q: CandidateState(y / n / n),
-        p: CandidateState(y / n % n),
-        t: CandidateState(y % n),
-        u: ReferenceState(a.rest % z.reference.states),
-        v,
-        l: a.l,
-        i: s.i,
-        j: s.j,
-        k: s.k,
+        q: CandidateState(0),
+        p: CandidateState(0),
+        t: CandidateState(0),
+        u: ReferenceState(0),
+        v: ReferenceState(0),
+        l: 0,
+        i: 0,
+        j: 0,
+        k: 0,
     }
 }

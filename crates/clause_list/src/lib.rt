@@ -1,4 +1,4 @@
-// The clauses of a file by position: how many positions there are, and the next clause from a position on. For the crates above: their callers have tested
+// The clauses of a file by position: how many positions there are, and the next clause from a position on. The callers of `next_clause` have tested
 // the sizes and the tables.
 mod digits;
 mod groups;

@@ -1,11 +1,11 @@
 // The clause at a position, where there is one.
+use crate::digits::indices_of;
 use crate::digits::marking_at;
 use crate::digits::transition_at;
 use crate::groups::extension;
 use crate::groups::initial;
 use crate::groups::successor;
 use crate::groups::totality;
-use crate::indices::extension_indices;
 use automaton::Automaton;
 use automaton::states::CandidateState;
 use automaton::states::ReferenceState;
@@ -83,7 +83,7 @@ fn extension_at(
     requires { ⌜ (x < extensions z) × (clauseRoom ≤ length (now out)) ⌝ }
     ensures { λ r. ⌜ Wrote (now (out .entry)) 0 (extensionAt z (now (destinations .entry)) (now (marks .entry)) x) (now (out .exit)) r ⌝ }
 {
-    let indices = extension_indices(z, x);
+    let indices = indices_of(z, x);
     let v = indices.v;
     let w = entry(destinations, v, indices.l);
     let f = entry(marks, v, indices.l);

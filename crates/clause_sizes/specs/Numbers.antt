@@ -40,7 +40,7 @@ pub record Numbered (z : Sizes) (x : Var) (k : ℕ) : Type 0 where
 
 -- on all input: the number, or 0 where there is no such variable, or no file of these sizes
 pub record NumberIfAny (z : Sizes) (x : Var) (k : ℕ) : Type 0 where
-  pub there : Fitting z → InFile z x → k ≡ numberOf z x
+  pub there : Fitting z → InFile z x → Numbered z x k
   pub none : ¬ (Fitting z × InFile z x) → k ≡ 0
 
 -- on all input: V, or 0 where there is no file of these sizes

@@ -17,7 +17,7 @@ ghost use Rattle.clause_indices.specs.Indices.{clauseRoom};
 ghost use Rattle.clause_step.specs.Step.{«fresh-position», Stepped, StepFound};
 
 // The literals that the longest clause has.
-pub const CLAUSE: usize = 8;
+pub const CLAUSE: usize = clause_indices::CLAUSE;
 
 // The position after the last clause of the largest file. A carried position lies in 0 to this one.
 pub const LAST: u64 = 8657059969;

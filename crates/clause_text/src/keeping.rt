@@ -8,7 +8,7 @@ use clause_literals::negative;
 use clause_literals::positive;
 use clause_sizes::Sizes;
 use clause_step::CLAUSE;
-use clause_variables::numbers::path_number;
+use clause_variables::path_variable;
 use clause_words::write_literals;
 use pieces::word;
 ghost use mathlib.Core.Path.{_≡_};
@@ -102,7 +102,7 @@ fn path_in_slot(
     if size != 0 {
         return size as usize;
     }
-    let variable = path_number(z, q, u, p, v, i, j);
+    let variable = path_variable(z, q, u, p, v, i, j);
     let size = keep_literal(minus, variable, kept, slot * PATH_WIDTH);
     sizes[slot] = size;
     size as usize

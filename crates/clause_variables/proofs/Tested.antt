@@ -18,7 +18,7 @@ module _ (z : Sizes) (x : Var) where
   no-variable h = record { there = λ f i. absurd (h (f, i)); none = λ n. refl }
 
   pub a-variable : {k : ℕ} → Fitting z → InFile z x → Numbered z x k → NumberIfAny z x k
-  a-variable f i n = record { there = λ g j. n .is; none = λ h. absurd (h (f, i)) }
+  a-variable f i n = record { there = λ g j. n; none = λ h. absurd (h (f, i)) }
 
 -- ---- the indices
 

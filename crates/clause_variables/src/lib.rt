@@ -1,4 +1,4 @@
-// The numbers of the variables of a clause file, on all input; and for indices that were tested.
+// The numbers of the variables of a clause file, on all input.
 use automaton::states::CandidateState;
 use automaton::states::ReferenceState;
 use clause_sizes::Sizes;
@@ -6,8 +6,7 @@ use clause_sizes::fitting;
 ghost use Rattle.encoding.specs.Variables.{step, mark, path};
 ghost use Rattle.clause_sizes.specs.Numbers.{NumberIfAny};
 
-// For the crates above, which have tested the sizes and the indices.
-pub mod numbers;
+mod numbers;
 
 // The number of step(q, l, p), or 0 where a file of these sizes has no such variable, or none has these sizes.
 pub fn step_variable(z: Sizes, q: CandidateState, l: usize, p: CandidateState) -> usize

@@ -1,4 +1,4 @@
-// The numbers of the variables.
+// The numbers of the variables, for indices that were tested.
 use automaton::states::CandidateState;
 use automaton::states::ReferenceState;
 use clause_sizes::Sizes;

@@ -2,8 +2,8 @@
 use automaton::Automaton;
 use automaton::states::CandidateState;
 use clause_sizes::Sizes;
-use clause_variables::numbers::mark_number;
-use clause_variables::numbers::step_number;
+use clause_variables::mark_variable;
+use clause_variables::step_variable;
 use solver_text::Reader;
 ghost use mathlib.Core.Path.{_≡_};
 ghost use Prim.Native.Nat.{_≤_, _<_};
@@ -92,7 +92,7 @@ fn lowest_step(z: Sizes, named: &[u8; Reader::SLOTS], q: CandidateState, l: usiz
 {
     let mut p: usize = 0;
     while p < z.candidate.states {
-        if named[step_number(z, q, l, CandidateState(p))] == 1 {
+        if named[step_variable(z, q, l, CandidateState(p))] == 1 {
             return p;
         }
         p += 1;
@@ -115,7 +115,7 @@ fn marks_with(
     let mut i = z.candidate.sets;
     while i > 0 {
         i -= 1;
-        marks = marks * 2 + truth(named[mark_number(z, q, l, i, p)]);
+        marks = marks * 2 + truth(named[mark_variable(z, q, l, i, p)]);
     }
     marks
 }

@@ -5,6 +5,7 @@ use lib.ListN.{getD}
 use Rattle.encoding.specs.Loops.{total}
 use Rattle.clause_header.specs.ClosureCount.{closuresBy}
 use Rattle.clause_header.proofs.Counting.{transitions-le, transition-place, total-none, total-more}
+use borrow.Author.Needs.{needs}
 use native.Mathlib.Omega.{arith}
 use Rattle.clause_header.proofs.closure_count.Statement.{statement}
 use Rattle.clause_header.proofs.closure_count.Tie as tie
@@ -29,7 +30,7 @@ rem-entry : tie.Need-rem-entry Inv-loop μ-loop
 rem-entry c = omega (arith, c .before .before .before .before .before .pre .letters-some)
 
 entry-requires : tie.Need-entry-requires Inv-loop μ-loop
-entry-requires c κs = transition-place (c .before .before .before .before .before .pre) _ (c .before .before .loop-test .taken)
+entry-requires c κs = search needs
 
 closures-by-requires : tie.Need-closures-by-requires Inv-loop μ-loop
 closures-by-requires c κs = c .before .before .before .before .before .before .pre
@@ -44,7 +45,8 @@ loop-less : tie.Need-loop-less Inv-loop μ-loop
 loop-less c = omega arith
 
 loop-again : tie.Need-loop-again Inv-loop μ-loop
-loop-again c = (omega arith, total-more _ _ (c .before .before .before .before .before .loop .inv .1) (c .closures-by .ensures .0 ∙ ap (closuresBy (c .before .before .before .before .before .before .before .args .z)) (c .before .entry .ensures)), omega (arith, c .closures-by .ensures .1))
+loop-again c = let (hv, hl) = transition-place (c .before .before .before .before .before .before .before .pre) _ (c .before .before .before .before .loop-test .taken) in
+    (omega arith, total-more _ _ (c .before .before .before .before .before .loop .inv .1) (c .closures-by .ensures .0 ∙ ap (closuresBy (c .before .before .before .before .before .before .before .args .z)) (c .before .entry .ensures .there hv hl)), omega (arith, c .closures-by .ensures .1))
 
 returns : tie.Need-returns Inv-loop μ-loop
 returns c = let e : c .before .loop .y ≡ c .before .before .before .args .z .reference .states * c .before .before .before .args .z .letters = omega arith in

@@ -1,14 +1,17 @@
 -- `find` meets its contract.
+use borrow.Author.Needs.{needs}
 use Rattle.clause_list.specs.Measured.{measured-tables, measured-start}
 use Rattle.clause_step.proofs.Laws.{found-ended, found-written, hands-length}
 use Rattle.clause_step.proofs.find.Statement.{statement}
 use Rattle.clause_step.proofs.find.Tie as tie
 
 extent-of-requires : tie.Need-extent-of-requires
-extent-of-requires c κs = measured-tables (c .before .before .pre .0) .fits
+extent-of-requires c κs = search needs
 
 next-clause-requires : tie.Need-next-clause-requires
-next-clause-requires c κs = ((measured-tables (c .before .before .before .before .before .before .pre .0), measured-start (c .before .before .before .before .before .before .pre .0)), (c .before .before .before .extent-of .ensures, c .before .before .before .before .before .before .pre .1))
+next-clause-requires c κs = let s = c .before .before .before .before .before .before in
+    let t = measured-tables (s .pre .0) in
+    ((t, measured-start (s .pre .0)), (c .before .before .before .extent-of .ensures .there (t .fits), s .pre .1))
 
 same-length : tie.Need-same-length
 same-length c = hands-length (c .before .before .before .before .before .before .before .before .before .before .pre .0) _ (c .before .before .before .next-clause .ensures)

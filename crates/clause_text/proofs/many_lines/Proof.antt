@@ -1,4 +1,5 @@
 -- `many_lines` meets its contract.
+use borrow.Author.Needs.{needs}
 use Rattle.decimal.specs.Writing.{wrote-length}
 use Rattle.clause_list.specs.Measured.{measured-tables, measured-start}
 use Rattle.clause_text.proofs.Answering.{batch-ended, batch-handed}
@@ -6,10 +7,12 @@ use Rattle.clause_text.proofs.many_lines.Statement.{statement}
 use Rattle.clause_text.proofs.many_lines.Tie as tie
 
 extent-of-requires : tie.Need-extent-of-requires
-extent-of-requires c κs = measured-tables (c .before .before .before .pre .0) .fits
+extent-of-requires c κs = search needs
 
 fill-requires : tie.Need-fill-requires
-fill-requires c κs = ((measured-tables (c .before .before .before .before .before .before .before .pre .0), measured-start (c .before .before .before .before .before .before .before .pre .0)), c .before .before .before .extent-of .ensures)
+fill-requires c κs = let s = c .before .before .before .before .before .before .before in
+    let t = measured-tables (s .pre .0) in
+    ((t, measured-start (s .pre .0)), c .before .before .before .extent-of .ensures .there (t .fits))
 
 same-length : tie.Need-same-length
 same-length c = wrote-length (c .before .before .before .before .fill .ensures .lines .text)

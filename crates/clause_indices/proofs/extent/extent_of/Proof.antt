@@ -1,58 +1,22 @@
 -- `extent_of` meets its contract.
-use Rattle.clause_indices.proofs.Extents.{square-le, pairs-le, moves-le, two-le, markings-le, product-le, states-le, third-le, first-le, extent-is}
-use native.Mathlib.Omega.{arith}
+use mathlib.Core.Path.{refl}
+use borrow.Author.Needs.{needs}
+use borrow.Author.Tests.{not-true, not-false}
+use Rattle.clause_sizes.specs.Conjunctions.{false-not}
 use Rattle.clause_indices.proofs.extent.extent_of.Statement.{statement}
 use Rattle.clause_indices.proofs.extent.extent_of.Tie as tie
 
-mul-first : tie.Need-mul-first
-mul-first c = omega (arith, first-le (c .before .pre))
-
-mul-moves : tie.Need-mul-moves
-mul-moves c = omega (arith, square-le (c .before .pre))
-
-mul-moves-2 : tie.Need-mul-moves-2
-mul-moves-2 c = omega (arith, pairs-le (c .before .pre))
-
-mul-moves-3 : tie.Need-mul-moves-3
-mul-moves-3 c = omega (arith, moves-le (c .before .before .pre))
-
-mul-markings : tie.Need-mul-markings
-mul-markings c = omega (arith, two-le (c .before .before .pre))
-
-mul-markings-2 : tie.Need-mul-markings-2
-mul-markings-2 c = omega (arith, markings-le (c .before .before .pre))
-
-mul-third : tie.Need-mul-third
-mul-third c = omega (arith, states-le (c .before .before .pre))
-
-mul-third-2 : tie.Need-mul-third-2
-mul-third-2 c = omega (arith, product-le (c .before .before .pre))
-
-mul-third-3 : tie.Need-mul-third-3
-mul-third-3 c = omega (arith, third-le (c .before .before .pre))
-
-add-t11 : tie.Need-add-t11
-add-t11 c = omega (arith, first-le (c .before .before .pre), moves-le (c .before .before .pre), third-le (c .before .before .pre), product-le (c .before .before .pre))
-
-add-t10 : tie.Need-add-t10
-add-t10 c = omega (arith, first-le (c .before .before .pre), moves-le (c .before .before .pre), third-le (c .before .before .pre), product-le (c .before .before .pre))
-
-mul-t12 : tie.Need-mul-t12
-mul-t12 c = omega (arith, first-le (c .before .before .pre), moves-le (c .before .before .pre), third-le (c .before .before .pre), product-le (c .before .before .pre))
-
-add-t13 : tie.Need-add-t13
-add-t13 c = omega (arith, first-le (c .before .before .pre), moves-le (c .before .before .pre), third-le (c .before .before .pre), product-le (c .before .before .pre))
-
-add-t14 : tie.Need-add-t14
-add-t14 c = omega (arith, first-le (c .before .before .pre), moves-le (c .before .before .pre), third-le (c .before .before .pre), product-le (c .before .before .pre))
-
-add-t15 : tie.Need-add-t15
-add-t15 c = omega (arith, first-le (c .before .before .pre), moves-le (c .before .before .pre), third-le (c .before .before .pre), product-le (c .before .before .pre))
+fitting-requires : tie.Need-fitting-requires
+fitting-requires c κs = search needs
 
 returns : tie.Need-returns
-returns c = extent-is (c .before .before .pre)
+returns c = record { there = λ f. absurd (false-not _ (not-true _ (c .if1 .taken)) (c .before .fitting .ensures .1 f)); none = λ n. refl }
+
+positions-requires : tie.Need-positions-requires
+positions-requires c κs = c .before .fitting .ensures .0 (not-false _ (c .if1 .left))
+
+returns-2 : tie.Need-returns-2
+returns-2 c = record { there = λ f. c .positions .ensures; none = λ n. absurd (n (c .before .before .fitting .ensures .0 (not-false _ (c .before .if1 .left)))) }
 
 pub extent-of-spec : {M : Type 1} → statement M
-extent-of-spec =
-    tie.close
-    (tie.spec mul-first mul-moves mul-moves-2 mul-moves-3 mul-markings mul-markings-2 mul-third mul-third-2 mul-third-3 add-t11 add-t10 mul-t12 add-t13 add-t14 add-t15 returns)
+extent-of-spec = tie.close (tie.spec fitting-requires returns positions-requires returns-2)

@@ -1,44 +1,53 @@
 -- `premise` meets its contract.
-use mathlib.Core.Path.{refl, _∙_}
-use lib.ListN.{length-set}
-use Rattle.decimal.specs.Writing.{wrote-length}
-use Rattle.clause_indices.specs.Literals.{stored, wrote-two-then, negative-of}
 use borrow.Author.Needs.{needs}
+use borrow.Author.Tests.{not-true, not-false}
 use native.Mathlib.Omega.{arith}
+use Rattle.clause_sizes.specs.Conjunctions.{false-not}
+use Rattle.clause_sizes.specs.Sizes.{Fitting}
+use Rattle.clause_indices.specs.Indices.{Within}
+use Rattle.clause_indices.proofs.Tested.{no-premise, a-premise}
 use Rattle.clause_indices.proofs.premise.premise.Statement.{statement}
 use Rattle.clause_indices.proofs.premise.premise.Tie as tie
 
-path-number-requires : tie.Need-path-number-requires
-path-number-requires c κs = let h = c .pre .1 .0 in (c .pre .0, (h .q-lt, h .u-lt, h .p-lt, h .v-lt, h .i-lt, h .j-lt, refl))
+returns : tie.Need-returns
+returns c = no-premise (λ (f, w, l). absurd (omega (arith, c .if1 .taken)))
 
-negative-requires : tie.Need-negative-requires
-negative-requires c κs = search needs
+fitting-requires : tie.Need-fitting-requires
+fitting-requires c κs = search needs
 
-slice-set-from-out : tie.Need-slice-set-from-out
-slice-set-from-out c = omega arith
+returns-2 : tie.Need-returns-2
+returns-2 c = no-premise (λ (f, w, l). false-not _ (not-true _ (c .if2 .taken)) (c .before .fitting .ensures .1 f))
 
-step-number-requires : tie.Need-step-number-requires
-step-number-requires c κs = let h = c .before .before .pre .1 .0 in (c .before .before .pre .0, (h .p-lt, h .l-lt, h .t-lt))
+fits : (c : tie.Else2) → Fitting (c .before .before .before .args .z)
+fits c = c .before .fitting .ensures .0 (not-false _ (c .if2 .left))
 
-negative-requires-2 : tie.Need-negative-requires-2
-negative-requires-2 c κs = search needs
+within-requires : tie.Need-within-requires
+within-requires c κs = fits c
 
-slice-set-from-out-2 : tie.Need-slice-set-from-out-2
-slice-set-from-out-2 c = simp length-set (omega arith)
+returns-3 : tie.Need-returns-3
+returns-3 c = no-premise (λ (f, w, l). false-not _ (not-true _ (c .if3 .taken)) (c .before .within .ensures .1 w))
 
-marks-requires : tie.Need-marks-requires
-marks-requires c κs = let h = c .before .before .before .before .before .pre .1 .0 in (c .before .before .before .before .before .pre .0, (h .p-lt, h .l-lt, h .t-lt, simp length-set (omega arith)))
+in-range : (c : tie.Else3) → Within (c .before .before .before .before .before .args .z) (c .before .before .before .before .before .args .x)
+in-range c = c .before .within .ensures .0 (not-false _ (c .if3 .left))
+
+literals-requires : tie.Need-literals-requires
+literals-requires c κs = (fits (c .before .before .before), (in-range (c .before), omega (arith, c .before .before .before .before .before .if1 .left)))
 
 same-length : tie.Need-same-length
-same-length c = wrote-length (c .before .marks .ensures) ∙ simp length-set
+same-length c = search needs
 
-returns : tie.Need-returns
-returns c = wrote-two-then (omega arith)
-    (stored (c .before .before .before .before .before .negative .ok) ∙ negative-of (c .before .before .before .before .before .before .path-number .ensures) (c .before .before .before .before .before .negative .ensures))
-    (stored (c .before .before .before .negative2 .ok) ∙ negative-of (c .before .before .before .before .step-number .ensures) (c .before .before .before .negative2 .ensures))
-    (c .before .marks .ensures)
+returns-4 : tie.Need-returns-4
+returns-4 c = a-premise (fits (c .before .before .before .before .before)) (in-range (c .before .before .before)) (omega (arith, c .before .before .before .before .before .before .before .if1 .left)) (c .before .literals .ensures)
 
 pub premise-spec : {M : Type 1} → statement M
 premise-spec =
     tie.close
-    (tie.spec path-number-requires negative-requires slice-set-from-out step-number-requires negative-requires-2 slice-set-from-out-2 marks-requires same-length returns)
+    (tie.spec
+    returns
+    fitting-requires
+    returns-2
+    within-requires
+    returns-3
+    literals-requires
+    same-length
+    returns-4)

@@ -10,31 +10,35 @@ use Rattle.clause_list.proofs.groups.extension.Statement.{statement}
 use Rattle.clause_list.proofs.groups.extension.Tie as tie
 
 premise-requires : tie.Need-premise-requires
-premise-requires c κs = (c .before .pre .0, (c .before .pre .1 .0 .0, c .before .pre .1 .1))
+premise-requires c κs = search needs
 
-path-number-requires : tie.Need-path-number-requires
-path-number-requires c κs = let h = c .before .before .before .before .before .pre .1 .0 .0 in
-    (c .before .before .before .before .before .pre .0, (h .q-lt, h .u-lt, h .t-lt, c .before .before .before .before .before .pre .1 .0 .1, or-lt _ _ _ (h .i-lt) (h .k-lt), or-lt _ _ _ (h .j-lt) (c .before .before .before .before .before .pre .1 .0 .2), refl))
+path-variable-requires : tie.Need-path-variable-requires
+path-variable-requires c κs = search needs
 
 positive-requires : tie.Need-positive-requires
 positive-requires c κs = search needs
 
 mul-t13 : tie.Need-mul-t13
-mul-t13 c = omega (arith, premise-eight _ _ (c .before .before .before .before .before .before .before .pre .0) (c .before .before .before .before .before .premise .ensures))
+mul-t13 c = let (f, ((h, w, m), l)) = c .before .before .before .before .before .before .before .pre in omega (arith, premise-eight _ _ f (c .before .before .before .before .before .premise .ensures .there f h l))
 
 slice-set-from-out : tie.Need-slice-set-from-out
-slice-set-from-out c = omega (arith, premise-short _ _ (c .before .before .before .before .before .before .before .pre .0) (c .before .before .before .before .before .premise .ensures) (c .before .before .before .before .before .before .before .pre .1 .1), wrote-length (c .before .before .before .before .before .premise .ensures))
+slice-set-from-out c = let (f, ((h, w, m), l)) = c .before .before .before .before .before .before .before .pre in
+    let p = c .before .before .before .before .before .premise .ensures .there f h l in
+    omega (arith, premise-short _ _ f p l, wrote-length p)
 
 add-result : tie.Need-add-result
-add-result c = omega (arith, premise-eight _ _ (c .before .before .before .before .before .before .before .pre .0) (c .before .before .before .before .before .premise .ensures))
+add-result c = let (f, ((h, w, m), l)) = c .before .before .before .before .before .before .before .pre in omega (arith, premise-eight _ _ f (c .before .before .before .before .before .premise .ensures .there f h l))
 
 same-length : tie.Need-same-length
-same-length c = simp length-set (wrote-length (c .before .before .before .before .before .premise .ensures))
+same-length c = let (f, ((h, w, m), l)) = c .before .before .before .before .before .before .before .pre in simp length-set (wrote-length (c .before .before .before .before .before .premise .ensures .there f h l))
 
 returns : tie.Need-returns
-returns c = wrote-after (c .before .before .before .before .before .premise .ensures) (premise-short _ _ (c .before .before .before .before .before .before .before .pre .0) (c .before .before .before .before .before .premise .ensures) (c .before .before .before .before .before .before .before .pre .1 .1)) (stored (c .positive .ok) ∙ positive-of (c .before .path-number .ensures) (c .positive .ensures))
+returns c = let (f, ((h, w, m), l)) = c .before .before .before .before .before .before .before .pre in
+    let p = c .before .before .before .before .before .premise .ensures .there f h l in
+    let x = c .before .path-variable .ensures .there f (h .q-lt, h .u-lt, h .t-lt, w, or-lt _ _ _ (h .i-lt) (h .k-lt), or-lt _ _ _ (h .j-lt) m, refl) in
+    wrote-after p (premise-short _ _ f p l) (stored (c .positive .ok) ∙ positive-of x (c .positive .ensures))
 
 pub extension-spec : {M : Type 1} → statement M
 extension-spec =
     tie.close
-    (tie.spec premise-requires path-number-requires positive-requires mul-t13 slice-set-from-out add-result same-length returns)
+    (tie.spec premise-requires path-variable-requires positive-requires mul-t13 slice-set-from-out add-result same-length returns)

@@ -8,8 +8,8 @@ use native.Mathlib.Omega.{arith}
 use Rattle.clause_list.proofs.groups.initial.Statement.{statement}
 use Rattle.clause_list.proofs.groups.initial.Tie as tie
 
-path-number-requires : tie.Need-path-number-requires
-path-number-requires c κs = let f = c .pre .0 in (f, (f .n-some, c .pre .1 .0, f .n-some, c .pre .1 .0, pow-pos _, pow-pos _, refl))
+path-variable-requires : tie.Need-path-variable-requires
+path-variable-requires c κs = search needs
 
 positive-requires : tie.Need-positive-requires
 positive-requires c κs = search needs
@@ -21,9 +21,11 @@ same-length : tie.Need-same-length
 same-length c = simp length-set
 
 returns : tie.Need-returns
-returns c = wrote-first (omega arith) (stored (c .positive .ok) ∙ positive-of (c .before .path-number .ensures) (c .positive .ensures))
+returns c = let f = c .before .before .pre .0 in
+    let h = c .before .before .pre .1 .0 in
+    wrote-first (omega arith) (stored (c .positive .ok) ∙ positive-of (c .before .path-variable .ensures .there f (f .n-some, h, f .n-some, h, pow-pos _, pow-pos _, refl)) (c .positive .ensures))
 
 pub initial-spec : {M : Type 1} → statement M
 initial-spec =
     tie.close
-    (tie.spec path-number-requires positive-requires slice-set-from-out same-length returns)
+    (tie.spec path-variable-requires positive-requires slice-set-from-out same-length returns)

@@ -8,8 +8,8 @@ use native.Mathlib.Omega.{arith}
 use Rattle.clause_list.proofs.groups.successor.Statement.{statement}
 use Rattle.clause_list.proofs.groups.successor.Tie as tie
 
-path-number-requires : tie.Need-path-number-requires
-path-number-requires c κs = let f = c .pre .0 in let h = c .pre .1 .0 in (f, (h .q-lt, h .u-lt, h .q-lt, h .u-lt, pow-pos _, pow-pos _, refl))
+path-variable-requires : tie.Need-path-variable-requires
+path-variable-requires c κs = search needs
 
 negative-requires : tie.Need-negative-requires
 negative-requires c κs = search needs
@@ -17,8 +17,8 @@ negative-requires c κs = search needs
 slice-set-from-out : tie.Need-slice-set-from-out
 slice-set-from-out c = omega arith
 
-step-number-requires : tie.Need-step-number-requires
-step-number-requires c κs = let h = c .before .before .pre .1 .0 in (c .before .before .pre .0, (h .q-lt, h .l-lt, h .p-lt))
+step-variable-requires : tie.Need-step-variable-requires
+step-variable-requires c κs = search needs
 
 negative-requires-2 : tie.Need-negative-requires-2
 negative-requires-2 c κs = search needs
@@ -26,8 +26,8 @@ negative-requires-2 c κs = search needs
 slice-set-from-out-2 : tie.Need-slice-set-from-out-2
 slice-set-from-out-2 c = simp length-set (omega arith)
 
-path-number-requires-2 : tie.Need-path-number-requires-2
-path-number-requires-2 c κs = let f = c .before .before .before .before .pre .0 in let h = c .before .before .before .before .pre .1 .0 in (f, (h .p-lt, h .w-lt, h .p-lt, h .w-lt, pow-pos _, pow-pos _, refl))
+path-variable-requires-2 : tie.Need-path-variable-requires-2
+path-variable-requires-2 c κs = search needs
 
 positive-requires : tie.Need-positive-requires
 positive-requires c κs = search needs
@@ -39,12 +39,14 @@ same-length : tie.Need-same-length
 same-length c = simp length-set
 
 returns : tie.Need-returns
-returns c = wrote-three (omega arith)
-    (stored (c .before .before .before .before .negative .ok) ∙ negative-of (c .before .before .before .before .before .path-number .ensures) (c .before .before .before .before .negative .ensures))
-    (stored (c .before .before .negative2 .ok) ∙ negative-of (c .before .before .before .step-number .ensures) (c .before .before .negative2 .ensures))
-    (stored (c .positive .ok) ∙ positive-of (c .before .path-number2 .ensures) (c .positive .ensures))
+returns c = let f = c .before .before .before .before .before .before .pre .0 in
+    let h = c .before .before .before .before .before .before .pre .1 .0 in
+    wrote-three (omega arith)
+    (stored (c .before .before .before .before .negative .ok) ∙ negative-of (c .before .before .before .before .before .path-variable .ensures .there f (h .q-lt, h .u-lt, h .q-lt, h .u-lt, pow-pos _, pow-pos _, refl)) (c .before .before .before .before .negative .ensures))
+    (stored (c .before .before .negative2 .ok) ∙ negative-of (c .before .before .before .step-variable .ensures .there f (h .q-lt, h .l-lt, h .p-lt)) (c .before .before .negative2 .ensures))
+    (stored (c .positive .ok) ∙ positive-of (c .before .path-variable2 .ensures .there f (h .p-lt, h .w-lt, h .p-lt, h .w-lt, pow-pos _, pow-pos _, refl)) (c .positive .ensures))
 
 pub successor-spec : {M : Type 1} → statement M
 successor-spec =
     tie.close
-    (tie.spec path-number-requires negative-requires slice-set-from-out step-number-requires negative-requires-2 slice-set-from-out-2 path-number-requires-2 positive-requires slice-set-from-out-3 same-length returns)
+    (tie.spec path-variable-requires negative-requires slice-set-from-out step-variable-requires negative-requires-2 slice-set-from-out-2 path-variable-requires-2 positive-requires slice-set-from-out-3 same-length returns)

@@ -19,8 +19,8 @@ abbrev μ-loop : tie.MeasureT-loop
 loop-holds : tie.Need-loop-holds Inv-loop μ-loop
 loop-holds c = (omega arith, wrote-each-none _ _ _ (omega arith))
 
-step-number-requires : tie.Need-step-number-requires Inv-loop μ-loop
-step-number-requires c κs = (c .before .before .before .pre .0, (c .before .before .before .pre .1 .0, c .before .before .before .pre .1 .1, c .if1 .taken))
+step-variable-requires : tie.Need-step-variable-requires Inv-loop μ-loop
+step-variable-requires c κs = search needs
 
 positive-requires : tie.Need-positive-requires Inv-loop μ-loop
 positive-requires c κs = search needs
@@ -38,7 +38,7 @@ loop-less : tie.Need-loop-less Inv-loop μ-loop
 loop-less c = omega arith
 
 loop-again : tie.Need-loop-again Inv-loop μ-loop
-loop-again c = (omega arith, wrote-each-more _ _ (c .before .before .before .before .loop .inv .1) (omega (arith, c .before .before .before .before .before .pre .0 .n-le)) refl (stored (c .positive .ok) ∙ positive-of (c .before .step-number .ensures) (c .positive .ensures)))
+loop-again c = (omega arith, wrote-each-more _ _ (c .before .before .before .before .loop .inv .1) (omega (arith, c .before .before .before .before .before .pre .0 .n-le)) refl (stored (c .positive .ok) ∙ positive-of (c .before .step-variable .ensures .there (c .before .before .before .before .before .pre .0) (c .before .before .before .before .before .pre .1 .0, c .before .before .before .before .before .pre .1 .1, c .before .before .if1 .taken)) (c .positive .ensures)))
 
 same-length : tie.Need-same-length Inv-loop μ-loop
 same-length c = wrote-length (c .before .before .loop .inv .1)
@@ -50,4 +50,4 @@ returns c = let e : c .before .before .loop .p ≡ c .before .before .before .ar
 pub totality-spec : {M : Type 1} → statement M
 totality-spec =
     tie.close
-    (tie.spec Inv-loop μ-loop loop-holds step-number-requires positive-requires mul-t10 slice-set-from-out add-p loop-less loop-again same-length returns)
+    (tie.spec Inv-loop μ-loop loop-holds step-variable-requires positive-requires mul-t10 slice-set-from-out add-p loop-less loop-again same-length returns)

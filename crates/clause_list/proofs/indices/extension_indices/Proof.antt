@@ -1,44 +1,44 @@
 -- `extension_indices` meets its contract.
-use mathlib.Core.Path.{sym, subst}
-use Rattle.clause_indices.specs.Indices.{Within}
-use Rattle.clause_list.specs.Digits.{extension-within}
-use Rattle.clause_list.proofs.Places.{extension-is}
 use native.Mathlib.Omega.{arith}
+use borrow.Author.Needs.{needs}
+use borrow.Author.Tests.{not-true, not-false}
+use Rattle.clause_sizes.specs.Conjunctions.{false-not}
+use Rattle.clause_sizes.specs.Sizes.{Fitting}
+use Rattle.clause_list.proofs.Places.{third-lt, no-indices}
 use Rattle.clause_list.proofs.indices.extension_indices.Statement.{statement}
 use Rattle.clause_list.proofs.indices.extension_indices.Tie as tie
 
-marking-at-requires : tie.Need-marking-at-requires
-marking-at-requires c κs = c .pre .0
+fitting-requires : tie.Need-fitting-requires
+fitting-requires c κs = search needs
 
-transition-at-requires : tie.Need-transition-at-requires
-transition-at-requires c κs = c .before .pre .0
-
-div-y : tie.Need-div-y
-div-y c = omega (arith, c .before .before .before .before .before .pre .0 .r-some)
-
-div-t8 : tie.Need-div-t8
-div-t8 c = omega (arith, c .before .before .before .before .before .pre .0 .n-some)
-
-div-t9 : tie.Need-div-t9
-div-t9 c = omega (arith, c .before .before .before .before .before .pre .0 .n-some)
-
-div-t11 : tie.Need-div-t11
-div-t11 c = omega (arith, c .before .before .before .before .before .pre .0 .n-some)
-
-rem-t12 : tie.Need-rem-t12
-rem-t12 c = omega (arith, c .before .before .before .before .before .pre .0 .n-some)
-
-rem-t14 : tie.Need-rem-t14
-rem-t14 c = omega (arith, c .before .before .before .before .before .pre .0 .n-some)
-
-rem-t16 : tie.Need-rem-t16
-rem-t16 c = omega (arith, c .before .before .before .before .before .before .before .pre .0 .r-some)
+nowhere-requires : tie.Need-nowhere-requires
+nowhere-requires c κs = search needs
 
 returns : tie.Need-returns
-returns c = let e = extension-is _ (c .before .before .before .before .before .before .marking-at .ensures) (c .before .before .before .before .before .transition-at .ensures) in
-    (e, subst (Within (c .before .before .before .before .before .before .before .args .z)) (sym e) (extension-within (c .before .before .before .before .before .before .before .args .z) (c .before .before .before .before .before .before .before .args .x) (c .before .before .before .before .before .before .before .pre .1)))
+returns c = no-indices (λ (f, h). false-not _ (not-true _ (c .before .if1 .taken)) (c .before .before .fitting .ensures .1 f)) (c .nowhere .ensures)
+
+extent-of-requires : tie.Need-extent-of-requires
+extent-of-requires c κs = search needs
+
+nowhere-requires-2 : tie.Need-nowhere-requires-2
+nowhere-requires-2 c κs = search needs
+
+returns-2 : tie.Need-returns-2
+returns-2 c = no-indices (λ (f, h). absurd (omega (arith, c .before .if2 .taken, c .before .before .before .extent-of .ensures .there f .third-is))) (c .nowhere2 .ensures)
+
+fits : (c : tie.Else1) → Fitting (c .before .before .args .z)
+fits c = c .before .fitting .ensures .0 (not-false _ (c .if1 .left))
+
+indices-of-requires : tie.Need-indices-of-requires
+indices-of-requires c κs = let f = fits (c .before .before .before) in (f, third-lt f (c .before .before .extent-of .ensures) (c .if2 .left))
+
+returns-3 : tie.Need-returns-3
+returns-3 c =
+    let f = fits (c .before .before .before .before) in
+    let h = third-lt f (c .before .before .before .extent-of .ensures) (c .before .if2 .left) in
+    record { there = λ _ _. c .indices-of .ensures; none = λ n. absurd (n (f, h)) }
 
 pub extension-indices-spec : {M : Type 1} → statement M
 extension-indices-spec =
     tie.close
-    (tie.spec marking-at-requires transition-at-requires div-y div-t8 div-t9 div-t11 rem-t12 rem-t14 rem-t16 returns)
+    (tie.spec fitting-requires nowhere-requires returns extent-of-requires nowhere-requires-2 returns-2 indices-of-requires returns-3)

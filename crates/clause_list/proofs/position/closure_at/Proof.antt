@@ -1,10 +1,11 @@
 -- `closure_at` meets its contract.
 use mathlib.Core.Path.{sym, _∙_, subst}
 use borrow.Author.Tests.{not-true, not-false}
+use borrow.Author.Needs.{needs}
 use Rattle.decimal.specs.Writing.{wrote-length}
 use Rattle.clause_indices.specs.Indices.{Within}
 use Rattle.clause_list.specs.Digits.{closure-within}
-use Rattle.clause_list.proofs.Places.{indices-lt, closure-none, closure-written}
+use Rattle.clause_list.proofs.Places.{indices-lt, entry-is, closure-none, closure-written}
 use Rattle.clause_list.proofs.position.closure_at.Statement.{statement}
 use Rattle.clause_list.proofs.position.closure_at.Tie as tie
 
@@ -18,22 +19,26 @@ closure-indices-requires : tie.Need-closure-indices-requires
 closure-indices-requires c κs = (c .pre .0 .fits, c .pre .1 .0)
 
 entry-requires : tie.Need-entry-requires
-entry-requires c κs = indices-lt (c .before .before .pre .0 .fits) (within (c .before))
+entry-requires c κs = search needs
 
 one-full-requires : tie.Need-one-full-requires
 one-full-requires c κs = c .before .before .before .before .before .pre .0 .fits
 
 returns : tie.Need-returns
-returns c = closure-none (c .before .before .before .before .before .before .before .args .z) (c .before .before .before .before .before .before .before .args .destinations .now) (c .before .before .before .before .before .before .before .args .marks .now) _ (c .before .before .before .before .before .before .closure-indices .ensures) (c .before .before .before .before .entry .ensures) (sym (c .before .one-full .ensures) ∙ not-true _ (c .if1 .taken))
+returns c = let s = c .before .before .before .before .before .before .before in
+    let i = c .before .before .before .before .before .before in
+    closure-none (s .args .z) (s .args .destinations .now) (s .args .marks .now) _ (i .closure-indices .ensures) (entry-is (indices-lt (s .pre .0 .fits) (within i)) (c .before .before .before .before .entry .ensures)) (sym (c .before .one-full .ensures) ∙ not-true _ (c .if1 .taken))
 
 premise-requires : tie.Need-premise-requires
-premise-requires c κs = (c .before .before .before .before .before .before .before .before .pre .0 .fits, (within (c .before .before .before .before .before .before .before), c .before .before .before .before .before .before .before .before .pre .1 .1))
+premise-requires c κs = search needs
 
 same-length : tie.Need-same-length
-same-length c = wrote-length (c .before .premise .ensures)
+same-length c = let s = c .before .before .before .before .before .before .before .before .before .before in wrote-length (c .before .premise .ensures .there (s .pre .0 .fits) (within (c .before .before .before .before .before .before .before .before .before)) (s .pre .1 .1))
 
 returns-2 : tie.Need-returns-2
-returns-2 c = closure-written (c .before .before .before .before .before .before .before .before .before .before .args .z) (c .before .before .before .before .before .before .before .before .before .before .args .destinations .now) (c .before .before .before .before .before .before .before .before .before .before .args .marks .now) _ (c .before .before .before .before .before .before .before .before .before .closure-indices .ensures) (c .before .before .before .before .before .before .before .entry .ensures) (sym (c .before .before .before .before .one-full .ensures) ∙ not-false _ (c .before .before .before .if1 .left)) (c .before .premise .ensures)
+returns-2 c = let s = c .before .before .before .before .before .before .before .before .before .before in
+    let i = c .before .before .before .before .before .before .before .before .before in
+    closure-written (s .args .z) (s .args .destinations .now) (s .args .marks .now) _ (i .closure-indices .ensures) (entry-is (indices-lt (s .pre .0 .fits) (within i)) (c .before .before .before .before .before .before .before .entry .ensures)) (sym (c .before .before .before .before .one-full .ensures) ∙ not-false _ (c .before .before .before .if1 .left)) (c .before .premise .ensures .there (s .pre .0 .fits) (within i) (s .pre .1 .1))
 
 pub closure-at-spec : {M : Type 1} → statement M
 closure-at-spec =

@@ -1,6 +1,7 @@
 -- `successor_at` meets its contract.
+use borrow.Author.Needs.{needs}
 use Rattle.decimal.specs.Writing.{wrote-length}
-use Rattle.clause_list.proofs.Places.{transition-lt, successive, successor-written}
+use Rattle.clause_list.proofs.Places.{transition-lt, entry-is, successive, successor-written}
 use native.Mathlib.Omega.{arith}
 use Rattle.clause_list.proofs.position.successor_at.Statement.{statement}
 use Rattle.clause_list.proofs.position.successor_at.Tie as tie
@@ -15,16 +16,16 @@ rem-t10 : tie.Need-rem-t10
 rem-t10 c = omega (arith, c .before .before .before .before .before .before .pre .0 .0 .n-some)
 
 entry-requires : tie.Need-entry-requires
-entry-requires c κs = transition-lt (c .before .before .before .before .before .before .pre .0 .0) (c .before .before .before .before .before .transition-at .ensures)
+entry-requires c κs = search needs
 
 successor-requires : tie.Need-successor-requires
-successor-requires c κs = (c .before .before .before .before .before .before .before .before .pre .0 .0, (successive (c .before .before .before .before .before .before .before .before .pre .0 .0) (c .before .before .before .before .before .before .before .before .args .destinations .now) (c .before .before .before .before .before .before .before .before .pre .0 .1) (c .before .before .before .before .before .before .before .before .pre .1 .0) (c .before .before .before .before .before .before .before .transition-at .ensures) (c .before .entry .ensures), c .before .before .before .before .before .before .before .before .pre .1 .1))
+successor-requires c κs = (c .before .before .before .before .before .before .before .before .pre .0 .0, (successive (c .before .before .before .before .before .before .before .before .pre .0 .0) (c .before .before .before .before .before .before .before .before .args .destinations .now) (c .before .before .before .before .before .before .before .before .pre .0 .1) (c .before .before .before .before .before .before .before .before .pre .1 .0) (c .before .before .before .before .before .before .before .transition-at .ensures) (entry-is (transition-lt (c .before .before .before .before .before .before .before .before .pre .0 .0) (c .before .before .before .before .before .before .before .transition-at .ensures)) (c .before .entry .ensures)), c .before .before .before .before .before .before .before .before .pre .1 .1))
 
 same-length : tie.Need-same-length
 same-length c = wrote-length (c .before .successor .ensures)
 
 returns : tie.Need-returns
-returns c = successor-written (c .before .before .before .before .before .before .before .before .before .before .args .destinations .now) (c .before .before .before .before .before .before .before .before .before .transition-at .ensures) (c .before .before .before .entry .ensures) (c .before .successor .ensures)
+returns c = successor-written (c .before .before .before .before .before .before .before .before .before .before .args .destinations .now) (c .before .before .before .before .before .before .before .before .before .transition-at .ensures) (entry-is (transition-lt (c .before .before .before .before .before .before .before .before .before .before .pre .0 .0) (c .before .before .before .before .before .before .before .before .before .transition-at .ensures)) (c .before .before .before .entry .ensures)) (c .before .successor .ensures)
 
 pub successor-at-spec : {M : Type 1} → statement M
 successor-at-spec =

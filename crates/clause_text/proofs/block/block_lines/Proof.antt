@@ -15,7 +15,7 @@ forget-requires-3 : tie.Need-forget-requires-3
 forget-requires-3 c κs = tt
 
 extension-indices-requires : tie.Need-extension-indices-requires
-extension-indices-requires c κs = let s = c .before .before .before .before .before .before .before in (s .pre .0 .fits, s .pre .1 .1 .0)
+extension-indices-requires c κs = search needs
 
 lines-from-requires : tie.Need-lines-from-requires
 lines-from-requires c κs =
@@ -24,7 +24,7 @@ lines-from-requires c κs =
       (
         s .pre .1 .0,
         (
-          (s .pre .1 .1 .0, c .before .before .before .before .before .before .before .extension-indices .ensures .0, s .pre .1 .1 .1),
+          (s .pre .1 .1 .0, c .before .before .before .before .before .before .before .extension-indices .ensures .there (s .pre .0 .fits) (s .pre .1 .1 .0) .0, s .pre .1 .1 .1),
           (
             kept-none (omega (arith, c .before .before .before .before .before .before .before .before .before .before .before .before .forget .kept .0, c .before .before .before .before .before .before .before .before .before .before .before .before .before .forget-arg .given .0)) (c .before .before .before .before .before .before .before .before .before .before .before .before .forget .ensures),
             (

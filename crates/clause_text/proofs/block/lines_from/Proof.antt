@@ -3,6 +3,7 @@ use Prim.Native.Nat.{_-_}
 use Rattle.decimal.specs.Writing.{wrote-length}
 use Rattle.clause_indices.specs.Indices.{extensions}
 use Rattle.clause_text.proofs.Blocks.{extensions-none, extensions-some, extensions-le, AtBlock, indices-within, indices-lt, step-lt, line-short, line-more}
+use borrow.Author.Needs.{needs}
 use native.Mathlib.Omega.{arith}
 use Rattle.clause_text.proofs.block.lines_from.Statement.{statement}
 use Rattle.clause_text.proofs.block.lines_from.Tie as tie
@@ -43,18 +44,19 @@ returns-2 : tie.Need-returns-2 Inv-loop μ-loop
 returns-2 c = let l = c .before .before .before .before .before .loop in (l .inv .lines, omega (arith, c .if2 .taken, wrote-length (l .inv .lines .text), c .before .before .before .before .before .before .before .pre .1 .1 .0 .2))
 
 entry-requires : tie.Need-entry-requires Inv-loop μ-loop
-entry-requires c κs = let (h, is) = c .before .before .before .before .before .loop .inv .here (omega (arith, c .before .if1 .left)) in indices-lt (c .before .before .before .before .before .before .before .pre .0) h is
+entry-requires c κs = search needs
 
 entry-requires-2 : tie.Need-entry-requires-2 Inv-loop μ-loop
-entry-requires-2 c κs = let (h, is) = c .before .before .before .before .before .before .loop .inv .here (omega (arith, c .before .before .if1 .left)) in indices-lt (c .before .before .before .before .before .before .before .before .pre .0) h is
+entry-requires-2 c κs = search needs
 
 extension-line-requires : tie.Need-extension-line-requires Inv-loop μ-loop
 extension-line-requires c κs =
     let s = c .before .before .before .before .before .before .before .before .before .before .before .before .before .before .before .before in
     let l = c .before .before .before .before .before .before .before .before .before .before .before .before .before .before .loop in
     let (h, is) = l .inv .here (omega (arith, c .before .before .before .before .before .before .before .before .before .before .if1 .left)) in
-    let w-is = c .before .before .before .before .before .before .before .before .entry .ensures in
-    let f-is = c .before .before .before .before .before .before .before .entry2 .ensures in
+    let (hv, hl) = indices-lt (s .pre .0) h is in
+    let w-is = c .before .before .before .before .before .before .before .before .entry .ensures .there hv hl in
+    let f-is = c .before .before .before .before .before .before .before .entry2 .ensures .there hv hl in
     let (w-lt, f-lt) = step-lt (s .pre .0) h is w-is f-is in (
       (s .pre .0 .fits, indices-within (s .pre .0) h is, w-lt, f-lt),
       (l .inv .heads-kept, (l .inv .middles-kept, (l .inv .lasts-kept, (line-short (s .pre .0) h is w-is f-is (s .pre .1 .0), omega (arith, c .before .before .before .before .before .before .before .before .before .if2 .left, l .inv .lines .text .room, wrote-length (l .inv .lines .text)))))),
@@ -75,7 +77,8 @@ loop-again c =
     let l = c .before .before .before .before .before .before .before .before .before .before .before .before .before .before .before .before .before .before .loop in
     let (h, is) = l .inv .here (omega (arith, c .before .before .before .before .before .before .before .before .before .before .before .before .before .before .if1 .left)) in
     let (heads, (middles, (lasts, line))) = c .before .before .before .extension-line .ensures in
-    line-more (s .pre .0) h is (c .before .before .before .before .before .before .before .before .before .before .before .before .entry .ensures) (c .before .before .before .before .before .before .before .before .before .before .before .entry2 .ensures) (l .inv .lines) line (c .following .ensures) heads middles lasts
+    let (hv, hl) = indices-lt (s .pre .0) h is in
+    line-more (s .pre .0) h is (c .before .before .before .before .before .before .before .before .before .before .before .before .entry .ensures .there hv hl) (c .before .before .before .before .before .before .before .before .before .before .before .entry2 .ensures .there hv hl) (l .inv .lines) line (c .following .ensures) heads middles lasts
 
 pub lines-from-spec : {M : Type 1} → statement M
 lines-from-spec =

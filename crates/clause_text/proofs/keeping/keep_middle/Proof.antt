@@ -11,6 +11,13 @@ use borrow.Author.Needs.{needs}
 use Rattle.clause_text.proofs.keeping.keep_middle.Statement.{statement}
 use Rattle.clause_text.proofs.keeping.keep_middle.Tie as tie
 
+-- there are some literals, and the buffer holds them
+some : (c : tie.After-premise) → (1 ≤ c .premise .result) × (c .premise .result ≤ length (c .premise .last .1 .1 .0))
+some c =
+    let s = c .before .before in
+    let (some, room, read) = middle-read (s .args .z) (s .args .x) (c .premise .ensures .there (s .pre .0 .0) (s .pre .0 .1) (search needs)) in
+    (some, room)
+
 -- the literals stand in the slot
 kept : (c : tie.After-write-literals)
     → (c .before .before .before .before .before .before .before .args .at ≤ c .write-literals .result) × (c .write-literals .result - c .before .before .before .before .before .before .before .args .at ≤ 96)
@@ -19,7 +26,7 @@ kept : (c : tie.After-write-literals)
 kept c =
     let s = c .before .before .before .before .before .before .before in
     let p = c .before .before .before .before .before .premise in
-    let (some, room, read) = middle-read (s .args .z) (s .args .x) (p .ensures) in
+    let (some, room, read) = middle-read (s .args .z) (s .args .x) (p .ensures .there (s .pre .0 .0) (s .pre .0 .1) (search needs)) in
     let e = p .last .1 .1 .0 in
     let size : length (take (p .result - 1) (drop 1 e)) ≤ 7 = omega (arith, length-take-le (p .result - 1) (drop 1 e) (omega (arith, length-drop 1 e)), room, p .kept .1 .1 .0) in
     let (l, most, w) = literals-kept (take (p .result - 1) (drop 1 e)) _ read (c .write-literals .ensures) (omega (arith, size, s .pre .1, c .before .write-literals-arg2 .given .0)) in
@@ -32,13 +39,13 @@ premise-requires : tie.Need-premise-requires
 premise-requires c κs = search needs
 
 sub-write-literals : tie.Need-sub-write-literals
-sub-write-literals c = search needs
+sub-write-literals c = some (c .before) .0
 
 part-write-literals-start : tie.Need-part-write-literals-start
-part-write-literals-start c = search needs
+part-write-literals-start c = some (c .before .before) .0
 
 part-write-literals-end : tie.Need-part-write-literals-end
-part-write-literals-end c = search needs
+part-write-literals-end c = some (c .before .before) .1
 
 write-literals-requires : tie.Need-write-literals-requires
 write-literals-requires c κs = tt

@@ -1,4 +1,5 @@
 -- `path_in_slot` meets its contract.
+use borrow.Author.Needs.{needs}
 use native.Mathlib.Omega.{arith}
 use Rattle.clause_text.proofs.Slots.{kept-found}
 use Rattle.clause_text.proofs.Literals.{slot-lt, path-kept}
@@ -14,14 +15,14 @@ cast-result c = let found = kept-found (c .before .before .pre .1) (c .if1 .take
 returns : tie.Need-returns
 returns c = kept-found (c .before .before .pre .1) (c .if1 .taken)
 
-path-number-requires : tie.Need-path-number-requires
-path-number-requires c κs = let s = c .before .before in (s .pre .0 .0, s .pre .0 .1)
+path-variable-requires : tie.Need-path-variable-requires
+path-variable-requires c κs = search needs
 
 mul-keep-literal : tie.Need-mul-keep-literal
 mul-keep-literal c = let s = c .before .before .before .before in omega (arith, slot-lt (s .pre .0 .0) (s .args .minus) (s .pre .0 .1) (s .pre .0 .2))
 
 keep-literal-requires : tie.Need-keep-literal-requires
-keep-literal-requires c κs = let s = c .before .before .before .before in (c .before .path-number .ensures .small, omega (arith, slot-lt (s .pre .0 .0) (s .args .minus) (s .pre .0 .1) (s .pre .0 .2)))
+keep-literal-requires c κs = let s = c .before .before .before .before in (c .before .path-variable .ensures .there (s .pre .0 .0) (s .pre .0 .1) .small, omega (arith, slot-lt (s .pre .0 .0) (s .args .minus) (s .pre .0 .1) (s .pre .0 .2)))
 
 element-write-sizes : tie.Need-element-write-sizes
 element-write-sizes c = let s = c .before .before .before .before .before in slot-lt (s .pre .0 .0) (s .args .minus) (s .pre .0 .1) (s .pre .0 .2)
@@ -32,9 +33,9 @@ cast-result-2 c = omega (arith, c .keep-literal .ensures .1)
 returns-2 : tie.Need-returns-2
 returns-2 c =
     let s = c .before .before .before .before .before in
-    path-kept (s .pre .0 .0) (s .args .minus) (s .pre .0 .1) (s .pre .0 .2) (c .before .before .path-number .ensures) (s .pre .1) (c .keep-literal .ensures .0) (c .keep-literal .ensures .1)
+    path-kept (s .pre .0 .0) (s .args .minus) (s .pre .0 .1) (s .pre .0 .2) (c .before .before .path-variable .ensures .there (s .pre .0 .0) (s .pre .0 .1)) (s .pre .1) (c .keep-literal .ensures .0) (c .keep-literal .ensures .1)
 
 pub path-in-slot-spec : {M : Type 1} → statement M
 path-in-slot-spec =
     tie.close
-    (tie.spec element-copy-out-size cast-result returns path-number-requires mul-keep-literal keep-literal-requires element-write-sizes cast-result-2 returns-2)
+    (tie.spec element-copy-out-size cast-result returns path-variable-requires mul-keep-literal keep-literal-requires element-write-sizes cast-result-2 returns-2)

@@ -1,4 +1,5 @@
 -- `cells::lowest_step` meets its contract.
+use borrow.Author.Needs.{needs}
 use mathlib.Core.Path.{_≡_, sym, ap, _∙_}
 use mathlib.Core.Bool.{false}
 use Prim.Native.Nat.{ℕ, _-_, _≤_, _<_}
@@ -24,15 +25,18 @@ abbrev μ-loop : tie.MeasureT-loop
 loop-holds : tie.Need-loop-holds Inv-loop μ-loop
 loop-holds c = (omega arith, λ j h. absurd (omega arith))
 
-step-number-requires : tie.Need-step-number-requires Inv-loop μ-loop
-step-number-requires c κs = let h = c .before .before .before .pre in (h .0, (h .1, h .2, c .if1 .taken))
+step-variable-requires : tie.Need-step-variable-requires Inv-loop μ-loop
+step-variable-requires c κs = search needs
+
+is-step : (c : tie.After-step-variable Inv-loop μ-loop) → c .step-variable .result ≡ numberOf (c .before .before .before .before .args .z) (step (c .before .before .before .before .args .q .0) (c .before .before .before .before .args .l) (c .before .before .before .loop .p))
+is-step c = let h = c .before .before .before .before .pre in c .step-variable .ensures .there (h .0) (h .1, h .2, c .before .if1 .taken) .is
 
 element-copy-out-if2 : tie.Need-element-copy-out-if2 Inv-loop μ-loop
-element-copy-out-if2 c = let h = c .before .before .before .before .pre in step-slot (h .0) _ _ _ (h .1, h .2, c .before .if1 .taken) (c .step-number .ensures .is)
+element-copy-out-if2 c = let h = c .before .before .before .before .pre in step-slot (h .0) _ _ _ (h .1, h .2, c .before .if1 .taken) (is-step c)
 
 returns : tie.Need-returns Inv-loop μ-loop
 unfolding destination
-returns c = let e = c .before .before .step-number .ensures .is in
+returns c = let e = is-step (c .before .before) in
     lowest-is _ _ _ (c .before .before .before .if1 .taken) (ap (λ k. eqb (getD (c .before .before .before .before .before .before .args .named .now) k 0) 1) (sym e) ∙ eq-eqb _ _ (c .if2 .taken)) (c .before .before .before .before .before .loop .inv .1)
 
 add-p : tie.Need-add-p Inv-loop μ-loop
@@ -42,7 +46,7 @@ loop-less : tie.Need-loop-less Inv-loop μ-loop
 loop-less c = omega (arith, c .before .before .before .if1 .taken)
 
 loop-again : tie.Need-loop-again Inv-loop μ-loop
-loop-again c = let e = c .before .before .step-number .ensures .is in (
+loop-again c = let e = is-step (c .before .before) in (
   omega (arith, c .before .before .before .if1 .taken),
   below-more _ _ (c .before .before .before .before .before .loop .inv .1) (ap (λ k. eqb (getD (c .before .before .before .before .before .before .args .named .now) k 0) 1) (sym e) ∙ ne-eqb _ _ (c .if2 .left)),
 )
@@ -59,7 +63,7 @@ lowest-step-spec =
     Inv-loop
     μ-loop
     loop-holds
-    step-number-requires
+    step-variable-requires
     element-copy-out-if2
     returns
     add-p

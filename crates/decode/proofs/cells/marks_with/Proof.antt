@@ -1,8 +1,8 @@
 -- `cells::marks_with` meets its contract.
-use mathlib.Core.Path.{_≡_, ap, _∙_}
-use Prim.Native.Nat.{_≤_}
-use native.Mathlib.Omega.{arith}
 use borrow.Author.Needs.{needs}
+use mathlib.Core.Path.{_≡_, ap, _∙_}
+use Prim.Native.Nat.{_-_, _≤_}
+use native.Mathlib.Omega.{arith}
 use lib.Dec.{eqb}
 use lib.ListN.{getD}
 use Rattle.meaning.specs.BitSet.{bit}
@@ -29,11 +29,14 @@ sub-i c = c .loop-test .taken
 mul-marks : tie.Need-mul-marks Inv-loop μ-loop
 mul-marks c = omega (arith, upper-lt _ _ _ _ (c .before .before .pre .0 .m-le) (c .loop-test .taken) (c .before .loop .inv .1))
 
-mark-number-requires : tie.Need-mark-number-requires Inv-loop μ-loop
-mark-number-requires c κs = let h = c .before .before .pre in (h .0, (h .1, h .2, omega (arith, c .loop-test .taken, c .before .loop .inv .0), h .3))
+mark-variable-requires : tie.Need-mark-variable-requires Inv-loop μ-loop
+mark-variable-requires c κs = search needs
+
+is-mark : (c : tie.After-mark-variable Inv-loop μ-loop) → c .mark-variable .result ≡ numberOf (c .before .before .before .args .z) (mark (c .before .before .before .args .q .0) (c .before .before .before .args .l) (c .before .before .loop .i - 1) (c .before .before .before .args .p .0))
+is-mark c = let h = c .before .before .before .pre in c .mark-variable .ensures .there (h .0) (h .1, h .2, omega (arith, c .before .loop-test .taken, c .before .before .loop .inv .0), h .3) .is
 
 element-copy-out-truth : tie.Need-element-copy-out-truth Inv-loop μ-loop
-element-copy-out-truth c = let h = c .before .before .before .pre in mark-slot (h .0) _ _ _ _ (h .1, h .2, omega (arith, c .before .loop-test .taken, c .before .before .loop .inv .0), h .3) (c .mark-number .ensures .is)
+element-copy-out-truth c = let h = c .before .before .before .pre in mark-slot (h .0) _ _ _ _ (h .1, h .2, omega (arith, c .before .loop-test .taken, c .before .before .loop .inv .0), h .3) (is-mark c)
 
 truth-requires : tie.Need-truth-requires Inv-loop μ-loop
 truth-requires c κs = search needs
@@ -45,7 +48,7 @@ loop-less : tie.Need-loop-less Inv-loop μ-loop
 loop-less c = omega (arith, c .before .before .before .loop-test .taken)
 
 loop-again : tie.Need-loop-again Inv-loop μ-loop
-loop-again c = let e = c .before .before .mark-number .ensures .is in (
+loop-again c = let e = is-mark (c .before .before) in (
   omega (arith, c .before .before .before .before .loop .inv .0),
   upper-more _ _ _ _ (c .before .before .before .loop-test .taken) (c .before .before .before .before .loop .inv .0) (c .before .before .before .before .loop .inv .1)
       (c .truth .ensures .0 ∙ ap (λ k. bit (eqb (getD (c .before .before .before .before .before .args .named .now) k 0) 1)) e),
@@ -63,7 +66,7 @@ marks-with-spec =
     loop-holds
     sub-i
     mul-marks
-    mark-number-requires
+    mark-variable-requires
     element-copy-out-truth
     truth-requires
     add-marks
