@@ -15,7 +15,7 @@ use Rattle.encoding.specs.NamedFile.{named-encodes}
 use Rattle.automaton.specs.Bytes.{bytes}
 use Rattle.clause_sizes.specs.Targets.{named, task, numbers, file}
 use Rattle.hoa_text.specs.Grammar.{gives}
-use Rattle.hoa_text.specs.Labels.{deepest}
+use Rattle.hoa_text.specs.Formulas.{deepest}
 use Rattle.hoa_text.specs.Header.{itemRead}
 use Rattle.hoa_text.specs.Body.{bodyRead}
 use Rattle.hoa_text.specs.Reading.{read}

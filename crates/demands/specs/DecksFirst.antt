@@ -21,7 +21,7 @@ use Rattle.clause_words.specs.Text.{linesText}
 use Rattle.clause_text.specs.LinesOut.{lines-out}
 use Rattle.automaton.specs.Bytes.{bytes}
 use Rattle.hoa_text.specs.Grammar.{gives}
-use Rattle.hoa_text.specs.Labels.{deepest}
+use Rattle.hoa_text.specs.Formulas.{deepest}
 use Rattle.hoa_text.specs.Header.{itemRead}
 use Rattle.hoa_text.specs.Body.{bodyRead}
 use Rattle.hoa_text.specs.Reading.{read}

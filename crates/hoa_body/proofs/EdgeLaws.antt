@@ -24,7 +24,7 @@ use Rattle.hoa_text.specs.Grammar.{at, gives, refuses, Parsed, onward}
 use Rattle.hoa_text.specs.Header.{Header}
 use Rattle.hoa_text.specs.Body.{Table, letters, withEdge, secondEdge, marksGiven, listedEdge, inState}
 use Rattle.hoa_text.specs.Body as Hoa
-use Rattle.hoa_labels.specs.Answers.{Members}
+use Rattle.hoa_formulas.specs.Answers.{Members}
 use Rattle.hoa_edges.specs.declared.EdgeRead.{EdgeRead}
 use Rattle.hoa_edges.specs.declared.EdgeRead.the-variants as Read
 use Rattle.hoa_edges.specs.Answers.{EdgeAnswer, UnlabelledAnswer}

@@ -23,7 +23,7 @@ use Rattle.hoa_text.specs.Basics.{option, isSome}
 use Rattle.hoa_text.specs.Header.{Header}
 use Rattle.hoa_text.specs.Body.{Edge, letters, begun, withEdge}
 use Rattle.hoa_text.specs.Body as Hoa
-use Rattle.hoa_labels.specs.Answers.{Members}
+use Rattle.hoa_formulas.specs.Answers.{Members}
 use Rattle.hoa_body.specs.declared.Current.{Current}
 use Rattle.hoa_body.specs.declared.Table.{Table}
 use Rattle.hoa_body.specs.Answers.{currentOf}

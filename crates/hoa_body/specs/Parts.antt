@@ -9,7 +9,7 @@ use Rattle.hoa_text.specs.Tokens.{Stream, left}
 use Rattle.hoa_text.specs.Grammar.{Result, gives, refuses, Turn, again, done}
 use Rattle.hoa_text.specs.Header.{Header}
 use Rattle.hoa_text.specs.Body.{Current, Table, withState, withEdge, bodyRead}
-use Rattle.hoa_labels.specs.Answers.{Members}
+use Rattle.hoa_formulas.specs.Answers.{Members}
 use Rattle.hoa_body.specs.declared.parts.Part.{Part}
 use Rattle.hoa_body.specs.declared.parts.Part.the-variants.{State, Edge, End, Refused}
 use Rattle.hoa_body.specs.declared.Table as Code

@@ -11,7 +11,7 @@ use Rattle.refusals.specs.declared.Refusal.{Refusal}
 use Rattle.refusals.specs.declared.Refusal.the-variants.{Form, Undeclared, Outside}
 use Rattle.hoa_text.specs.Tokens.{left}
 use Rattle.hoa_text.specs.Grammar.{numberOf, at, refuses, peek, then}
-use Rattle.hoa_text.specs.Labels.{holds, label}
+use Rattle.hoa_text.specs.Formulas.{holds, label}
 use Rattle.hoa_text.specs.Header.{Header}
 use Rattle.hoa_text.specs.Body.{Current, Table, marksGiven, destinationGiven, unlabelled, labelGiven, edge}
 use Rattle.hoa_tokens.specs.declared.Token.the-variants.{Number}
@@ -19,7 +19,7 @@ use Rattle.hoa_tokens.specs.Answers.{Reads}
 use Rattle.hoa_offsets.specs.Behind.{Behind}
 use Rattle.hoa_tokens.proofs.Due.{number-due}
 use Rattle.hoa_offsets.specs.BehindLaws.{absent, present, behind-it}
-use Rattle.hoa_labels.specs.Answers.{Read}
+use Rattle.hoa_formulas.specs.Answers.{Read}
 use Rattle.hoa_marks.specs.declared.MarksRead.the-variants as Marks
 use Rattle.hoa_marks.specs.Answers.{MarksAnswer}
 use Rattle.hoa_marks.proofs.MarkLaws.{then-refused, then-read}
@@ -115,7 +115,7 @@ module _ (s : List ℕ) (i n k m : ℕ) where
     pub label-read : (set b : ℕ) → Read s i (label k (left s i)) set b → (r : EdgeRead) → LabelledAnswer s b n m set r → EdgeAnswer s i n k m r
     label-read set b x r y = record {
       lies = later s i b n (omega (arith, x .from)) r (y .lies);
-      means = λ v h t c n e z. subst (λ w. EdgeMeans h t c s w r) (sym (is h t c e)) (y .means h t c (x .formula) v n z (x .letters));
+      means = λ v h t c n e z. subst (λ w. EdgeMeans h t c s w r) (sym (is h t c e)) (y .means h t c (x .formula) v n z (x .members));
       outside = λ g. absurd (omega arith);
     }
       where

@@ -9,7 +9,7 @@ use Rattle.hoa_text.specs.Grammar.{refuses, Parsed}
 use Rattle.hoa_text.specs.Header.{Header}
 use Rattle.hoa_text.specs.Body.{Current, Table, marksGiven, unlabelled, edge}
 use Rattle.hoa_text.specs.Tokens.{left}
-use Rattle.hoa_labels.specs.Answers.{Members}
+use Rattle.hoa_formulas.specs.Answers.{Members}
 use Rattle.hoa_edges.specs.declared.EdgeRead.{EdgeRead}
 use Rattle.hoa_edges.specs.declared.EdgeRead.the-variants.{To, Refused}
 

@@ -4,11 +4,11 @@ use mathlib.Core.Bool.{Bool}
 use mathlib.Core.List.{List}
 use Prim.Native.Nat.{ℕ, _≤_, _<_}
 use Rattle.hoa_text.specs.Grammar.{then}
-use Rattle.hoa_text.specs.Labels.{Formula}
+use Rattle.hoa_text.specs.Formulas.{Formula}
 use Rattle.hoa_text.specs.Header.{Header}
 use Rattle.hoa_text.specs.Body.{Current, Table, marked, marksGiven, labelGiven}
 use Rattle.hoa_text.specs.Tokens.{left}
-use Rattle.hoa_labels.specs.Answers.{Members, Satisfy}
+use Rattle.hoa_formulas.specs.Answers.{Members, Satisfy}
 use Rattle.hoa_edges.specs.declared.EdgeRead.{EdgeRead}
 use Rattle.hoa_edges.specs.Answers.{EdgeLies, EdgeMeans}
 

@@ -1,7 +1,7 @@
 // An edge of the body: its label, destination and marks.
 use automaton::Automaton;
-use hoa_labels::LabelRead;
-use hoa_labels::label;
+use hoa_formulas::FormulaRead;
+use hoa_formulas::label;
 use hoa_marks::MarksRead;
 use hoa_marks::marks;
 use hoa_offsets::behind;
@@ -28,8 +28,8 @@ pub fn edge(text: &[u8], at: usize, states: usize, propositions: usize, sets: us
         return EdgeRead::Refused(Refusal::Outside);
     }
     match label(text, at, propositions) {
-        LabelRead::Refused(refusal) => EdgeRead::Refused(refusal),
-        LabelRead::Letters(set, next) => labelled(text, next, states, sets, set),
+        FormulaRead::Refused(refusal) => EdgeRead::Refused(refusal),
+        FormulaRead::Members(set, next) => labelled(text, next, states, sets, set),
     }
 }
 

@@ -11,7 +11,7 @@ use Rattle.refusals.specs.declared.Refusal.the-variants.{Form, Undeclared, Body
 use Rattle.hoa_text.specs.Basics.{option, isSome, first}
 use Rattle.hoa_text.specs.Tokens.{Stream, stands, over, broken}
 use Rattle.hoa_text.specs.Grammar.{numberOf, quotedOf, isItem, isSign, next, rest, at, Result, gives, refuses, Parsed, then, due, expect, Turn, done, repeat, onward}
-use Rattle.hoa_text.specs.Labels.{Formula, holds, label}
+use Rattle.hoa_text.specs.Formulas.{Formula, holds, label}
 use Rattle.hoa_text.specs.Header.{Header}
 
 -- a transition, as an edge gives it; the set of its marks is a number, bit i for the set i

@@ -9,7 +9,7 @@ use Rattle.automaton.specs.declared.Automaton.{Automaton}
 use Rattle.refusals.specs.declared.Refusal.the-variants.{Form, Undeclared, Body, NoEdge}
 use Rattle.automaton.specs.Bytes.{bytes}
 use Rattle.hoa_text.specs.Grammar.{Result, gives, refuses}
-use Rattle.hoa_text.specs.Labels.{deepest}
+use Rattle.hoa_text.specs.Formulas.{deepest}
 use Rattle.hoa_text.specs.Header.{itemRead}
 use Rattle.hoa_text.specs.Body.{bodyRead}
 use Rattle.hoa_text.specs.Reading.{read}

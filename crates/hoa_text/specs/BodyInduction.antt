@@ -14,7 +14,7 @@ use Rattle.refusals.specs.declared.Refusal.the-variants.{Form, Undeclared}
 use Rattle.hoa_text.specs.Basics.{option, isSome}
 use Rattle.hoa_text.specs.Tokens.{Stream, stands, over, broken}
 use Rattle.hoa_text.specs.Grammar.{numberOf, isItem, isSign, next, rest, at, gives, refuses, Parsed, due, onward}
-use Rattle.hoa_text.specs.Labels.{holds, label}
+use Rattle.hoa_text.specs.Formulas.{holds, label}
 use Rattle.hoa_text.specs.Header.{Header}
 use Rattle.hoa_text.specs.Body.{Current, Table, noStates, letters, marks, marked, withState, unquoted, stateGiven, stateItem, withEdge, secondEdge, marksGiven, destinationGiven, unlabelled, labelGiven, withLabel, withoutLabel, labelledEdge, listedEdge, bodyRead, body}
 use Rattle.hoa_text.specs.Repetition.{Every, every-then, every-after, every-onward, Both, every-repeat}

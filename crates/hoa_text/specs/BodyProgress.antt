@@ -13,12 +13,12 @@ use Rattle.refusals.specs.declared.Refusal.the-variants.{Form, Undeclared}
 use Rattle.hoa_text.specs.Basics.{option, isSome}
 use Rattle.hoa_text.specs.Tokens.{Stream, stands, over, broken}
 use Rattle.hoa_text.specs.Grammar.{numberOf, quotedOf, isItem, isSign, next, rest, at, gives, refuses, Parsed, due, onward, turn, size, repeat}
-use Rattle.hoa_text.specs.Labels.{Formula, holds, label}
+use Rattle.hoa_text.specs.Formulas.{Formula, holds, label}
 use Rattle.hoa_text.specs.Header.{Header}
 use Rattle.hoa_text.specs.Body.{Current, Table, letters, marks, marked, withState, unquoted, stateMarked, stateGiven, stateItem, withEdge, secondEdge, marksGiven, destinationGiven, unlabelled, labelGiven, edge, withLabel, withoutLabel, labelledEdge, listedEdge, bodyRead}
 use Rattle.hoa_text.specs.Repetition.{Every, Fewer, Shrinks, repeat-turn}
 use Rattle.hoa_text.specs.Progress.{rest-size, Leaves, leaves-more, rest-leaves, most-leaves, then-leaves, due-leaves, expect-leaves, onward-fewer, onward-behind}
-use Rattle.hoa_text.specs.LabelProgress.{label-leaves}
+use Rattle.hoa_text.specs.FormulaProgress.{label-leaves}
 
 -- ---- marks
 

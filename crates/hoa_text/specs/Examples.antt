@@ -10,7 +10,7 @@ use Rattle.refusals.specs.declared.Refusal.the-variants.{Form, Size, Item, Unde
 use Rattle.automaton.specs.Bytes.{bytes}
 use Rattle.hoa_text.specs.Tokens.{tokens}
 use Rattle.hoa_text.specs.Grammar.{gives, refuses}
-use Rattle.hoa_text.specs.Labels.{deepest}
+use Rattle.hoa_text.specs.Formulas.{deepest}
 use Rattle.hoa_text.specs.Header.{itemRead}
 use Rattle.hoa_text.specs.Body.{bodyRead}
 use Rattle.hoa_text.specs.Reading.{reading, textLimit, read}

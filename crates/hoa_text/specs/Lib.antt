@@ -1,7 +1,7 @@
 pub mod Basics
 pub mod Tokens
 pub mod Grammar
-pub mod Labels
+pub mod Formulas
 pub mod Header
 pub mod Body
 pub mod Reading
@@ -11,7 +11,7 @@ pub mod Numbers
 pub mod Names
 pub mod Repetition
 pub mod Progress
-pub mod LabelProgress
+pub mod FormulaProgress
 pub mod HeaderProgress
 pub mod BodyProgress
 pub mod HeaderFits
@@ -34,3 +34,4 @@ pub mod WrittenLength
 pub mod ReadBack
 pub mod Examples
 pub mod BodyExamples
+pub mod FormulaExamples

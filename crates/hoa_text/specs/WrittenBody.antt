@@ -20,7 +20,7 @@ use Rattle.automaton.specs.Bytes.{bytes}
 use Rattle.hoa_text.specs.Basics.{option, isSome}
 use Rattle.hoa_text.specs.Tokens.{over, lex}
 use Rattle.hoa_text.specs.Grammar.{quotedOf, isSign, next, rest, at, gives, refuses, then, again, repeat, onward}
-use Rattle.hoa_text.specs.Labels.{Formula, holds, label}
+use Rattle.hoa_text.specs.Formulas.{Formula, holds, label}
 use Rattle.hoa_text.specs.Header.{Header}
 use Rattle.hoa_text.specs.Body.{Edge, Current, Table, noStates, letters, marks, marked, withState, stateMarked, stateGiven, withEdge, secondEdge, marksGiven, destinationGiven, labelGiven, withLabel, bodyRead, body}
 use Rattle.hoa_text.specs.Written.{decimal, marksOf, labelOf, edgeLine, stateLine, stateLines, endLine}

@@ -18,10 +18,10 @@ use Rattle.meaning.specs.CountingLaws.{each-length}
 use Rattle.automaton.specs.Bytes.{bytes}
 use Rattle.hoa_text.specs.Tokens.{number, Stream, stands, lex}
 use Rattle.hoa_text.specs.Grammar.{gives, Parsed, then, again, repeat}
-use Rattle.hoa_text.specs.Labels.{Formula, proposition, top, negation, conjunction, disjunction, holds, operation, conjunctions, unary, negated, deepest, label}
+use Rattle.hoa_text.specs.Formulas.{Formula, propositions, proposition, top, negation, conjunction, disjunction, holds, operation, conjunctions, unary, negated, deepest, label}
 use Rattle.hoa_text.specs.Written.{decimal, followed, separated, literalOf, labelOf}
 use Rattle.hoa_text.specs.Repetition.{repeat-again, repeat-done}
-use Rattle.hoa_text.specs.LabelProgress.{and-shrinks, or-shrinks}
+use Rattle.hoa_text.specs.FormulaProgress.{and-shrinks, or-shrinks}
 use Rattle.hoa_text.specs.WrittenTokens.{SomeOffset, Reads, NoDigit, first-byte, number-read}
 
 -- ---- texts with a text between them
@@ -96,13 +96,13 @@ holds-formula k l i hl hi = go (ℕ-discrete i l) (holds (formulaOf k l) i) refl
 
 -- ---- its text
 
-proposition-read : (d k i : ℕ) → i < k → (o : ℕ) (s : Stream) → unary (suc d) k (stands o (number i) s) ≡ gives (proposition i, s)
+proposition-read : (d k i : ℕ) → i < k → (o : ℕ) (s : Stream) → unary (suc d) (propositions k) (stands o (number i) s) ≡ gives (proposition i, s)
 proposition-read d k i h o s = rw (lt-ltb i k h)
 
 module _ (d k l : ℕ) (small : k ≤ 4) where
   -- with a depth of two and more
   abbrev operand : Stream → Parsed Formula
-  operand = unary (suc (suc d)) k
+  operand = unary (suc (suc d)) (propositions k)
 
   literal-read : (i : ℕ) → i < k → (s : List ℕ) → NoDigit s → Reads operand (literalOf l i ++ s) (λ u. gives (literalFormula l i, u)) s
   literal-read i h s e o = go (has l i)
@@ -116,7 +116,7 @@ module _ (d k l : ℕ) (small : k ≤ 4) where
           let n = number-read i (omega arith) s e (o + 1) in
           record {
             offset = n .offset;
-            is = ap (λ u. then (unary (suc d) k u) negated) (n .is) ∙ ap (λ x. then x negated) (proposition-read d k i h (o + 1) (lex s 0 (n .offset)));
+            is = ap (λ u. then (unary (suc d) (propositions k) u) negated) (n .is) ∙ ap (λ x. then x negated) (proposition-read d k i h (o + 1) (lex s 0 (n .offset)));
           }
 
   formula-read : (j : ℕ) → j < k → (s : List ℕ) → NoDigit s
@@ -134,7 +134,7 @@ module _ (d k l : ℕ) (small : k ≤ 4) where
       record {
         offset = n .offset;
         is = ap (λ u. conjunctions operand (lex u 0 o)) (one-more-separated "&" (literalOf l) j s) ∙ ih .is
-            ∙ repeat-again (operation "&" conjunction operand) (and-shrinks (suc (suc d)) k) (formulaOf (suc j) l) (lex r 0 (ih .offset))
+            ∙ repeat-again (operation "&" conjunction operand) (and-shrinks (suc (suc d)) (propositions k)) (formulaOf (suc j) l) (lex r 0 (ih .offset))
             (ap (λ x. then x (λ g u. gives (again (conjunction (formulaOf (suc j) l) g) u))) (n .is));
       }
 
@@ -142,12 +142,12 @@ pub label-read : (k l : ℕ) → k ≤ 4 → (r : List ℕ) → Reads (label k) 
 unfolding deepest
 label-read zero l h r o = record { offset = o + 1; is = refl }
 label-read (suc k) l h r o =
-    let ands = operation "&" conjunction (unary 32 (suc k)) in
-    let ors = operation "|" disjunction (conjunctions (unary 32 (suc k))) in
+    let ands = operation "&" conjunction (unary 32 (propositions (suc k))) in
+    let ors = operation "|" disjunction (conjunctions (unary 32 (propositions (suc k)))) in
     let n = formula-read 30 (suc k) l h k (omega arith) (93 ∷ r) (first-byte 93 r refl) o in
     let u = lex (93 ∷ r) 0 (n .offset) in
     record {
       offset = n .offset;
-      is = ap (λ x. then x (repeat ors)) (n .is ∙ repeat-done ands (and-shrinks 32 (suc k)) (formulaOf (suc k) l) u refl)
-          ∙ repeat-done ors (or-shrinks 32 (suc k)) (formulaOf (suc k) l) u refl;
+      is = ap (λ x. then x (repeat ors)) (n .is ∙ repeat-done ands (and-shrinks 32 (propositions (suc k))) (formulaOf (suc k) l) u refl)
+          ∙ repeat-done ors (or-shrinks 32 (propositions (suc k))) (formulaOf (suc k) l) u refl;
     }

@@ -22,6 +22,8 @@ pub const VERSION: [u8; 2] = *b"v1";
 // In conditions and labels.
 pub const INF: [u8; 3] = *b"Inf";
 
+pub const FIN: [u8; 3] = *b"Fin";
+
 pub const TRUE: [u8; 1] = *b"t";
 
 pub const FALSE: [u8; 1] = *b"f";

@@ -2,9 +2,9 @@
 use mathlib.Core.Path.{subst}
 use borrow.Author.Needs.{needs}
 use denote.Ref.{now}
-use Rattle.hoa_text.specs.Labels.{label}
+use Rattle.hoa_text.specs.Formulas.{label}
 use Rattle.hoa_text.specs.Tokens.{left}
-use Rattle.hoa_labels.specs.Answers.{Answers}
+use Rattle.hoa_formulas.specs.Answers.{Answers}
 use Rattle.hoa_edges.proofs.EdgeLaws.{edge-outside, label-refused, label-read}
 use Rattle.hoa_edges.proofs.edge.Statement.{statement}
 use Rattle.hoa_edges.proofs.edge.Tie as tie

@@ -1,0 +1,4 @@
+pub mod MemberSets
+pub mod Laws
+pub mod AtomLaws
+pub mod Choices
