@@ -17,8 +17,8 @@ pub type Room = (String, String);
 // Statements stand at the head of these files of `demands`, and their proofs below.
 const STATEMENTS: [&str; 4] = ["Demand1", "Demand2", "Demand3", "Decks"];
 
-// What is said over lists of calls of the search stands beside them.
-const CLAIMED: [[&str; 3]; 1] = [["search", "Calls", "Searches"]];
+// What is said over lists of calls of the search stands beside them. The condition of document 02's E3 has a law, and no function writes it yet.
+const CLAIMED: [[&str; 3]; 2] = [["search", "Calls", "Searches"], ["hoa_text", "ConditionText", "conditionText"]];
 
 fn main() {
     let words: Vec<String> = env::args().collect();

@@ -1,4 +1,4 @@
--- EXAMPLES, by computation: acceptance conditions as document 02's E3 has them read.
+-- EXAMPLES, by computation: acceptance conditions as document 02's E3 has them read and written.
 use mathlib.Core.Path.{_≡_, refl}
 use mathlib.Core.List.{List, _++_}
 use Prim.Native.Nat.{ℕ}
@@ -7,7 +7,10 @@ use Rattle.refusals.specs.declared.Refusal.the-variants.{Form, Size, Undeclared
 use Rattle.automaton.specs.Bytes.{bytes}
 use Rattle.hoa_text.specs.Tokens.{over, tokens}
 use Rattle.hoa_text.specs.Grammar.{gives, refuses, Parsed}
+use Rattle.hoa_text.specs.ConditionText.{conditionText}
 use Rattle.hoa_text.specs.Formulas.{Formula, proposition, top, bottom, negation, conjunction, disjunction, deepest, acceptanceFormula}
+
+-- ---- read
 
 -- with two sets
 abbrev condition : List ℕ → Parsed Formula
@@ -58,3 +61,23 @@ nested-33 = refl
 denial-33 : condition (replicate 32 40 ++ bytes "!t") ≡ refuses (Form 32)
 unfolding deepest
 denial-33 = refl
+
+-- ---- written
+
+-- "Inf of all sets keeps its form", with none too
+inf-of-all : conditionText 3 128 ≡ bytes "Inf(0)&Inf(1)&Inf(2)"
+inf-of-all = refl
+
+inf-of-none : conditionText 0 1 ≡ bytes "t"
+inf-of-none = refl
+
+-- "otherwise all-true is t, all-false is f"
+all-true : conditionText 3 255 ≡ bytes "t"
+all-true = refl
+
+all-false : conditionText 0 0 ≡ bytes "f"
+all-false = refl
+
+-- "else the accepted sets of marks ascending, joined by |, each naming every set": here the first alone, the second alone, and both
+some-true : conditionText 2 14 ≡ bytes "Inf(0)&Fin(1)|Fin(0)&Inf(1)|Inf(0)&Inf(1)"
+some-true = refl

@@ -26,9 +26,12 @@ pub mod QuotedOffsets
 pub mod SignOffsets
 pub mod FirstByte
 pub mod WrittenTokens
+pub mod WrittenFormulas
 pub mod WrittenLabels
 pub mod WrittenMarks
 pub mod WrittenBody
+pub mod ConditionText
+pub mod WrittenAcceptance
 pub mod WrittenHeader
 pub mod WrittenLength
 pub mod ReadBack

@@ -27,7 +27,8 @@ use Rattle.hoa_text.specs.Written.{decimal, marksOf, labelOf, edgeLine, 
 use Rattle.hoa_text.specs.Repetition.{repeat-again, repeat-done}
 use Rattle.hoa_text.specs.BodyProgress.{body-shrinks}
 use Rattle.hoa_text.specs.WrittenTokens.{SomeOffset, Reads, first-byte, due-number}
-use Rattle.hoa_text.specs.WrittenLabels.{formulaOf, holds-formula, label-read}
+use Rattle.hoa_text.specs.WrittenFormulas.{formulaOf, holds-formula}
+use Rattle.hoa_text.specs.WrittenLabels.{label-read}
 use Rattle.hoa_text.specs.WrittenMarks.{marks-front, marks-read}
 use Rattle.hoa_text.specs.First.{none-first}
 

@@ -25,7 +25,7 @@ use Rattle.hoa_text.specs.Repetition.{repeat-again, repeat-done}
 use Rattle.hoa_text.specs.HeaderProgress.{item-shrinks}
 use Rattle.hoa_text.specs.Names.{not-among, name-length, name-printable}
 use Rattle.hoa_text.specs.WrittenTokens.{SomeOffset, Reads, NoDigit, first-byte, number-read, due-number, quoted-read}
-use Rattle.hoa_text.specs.WrittenLabels.{one-more-separated}
+use Rattle.hoa_text.specs.WrittenFormulas.{one-more-separated}
 use Rattle.hoa_text.specs.WrittenBody.{headerOf}
 
 abbrev after : Option ℕ → Option (ℕ × ℕ) → Option (List (List ℕ)) → Option ℕ → Items

@@ -21,7 +21,7 @@ use Rattle.hoa_text.specs.Grammar.{isSign, next, rest, gives, refuses}
 use Rattle.hoa_text.specs.Body.{marks, marked}
 use Rattle.hoa_text.specs.Written.{decimal, separated, members, marksOf}
 use Rattle.hoa_text.specs.WrittenTokens.{SomeOffset, Reads, NoDigit, first-byte, number-read}
-use Rattle.hoa_text.specs.WrittenLabels.{separated-more}
+use Rattle.hoa_text.specs.WrittenFormulas.{separated-more}
 
 -- ---- the sets below j
 

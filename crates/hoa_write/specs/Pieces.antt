@@ -14,7 +14,7 @@ use Rattle.meaning.specs.BitSetLaws.{low}
 use Rattle.meaning.specs.Counting.{each}
 use Rattle.meaning.specs.CountingLaws.{each-length}
 use Rattle.hoa_text.specs.Written.{decimal, separated, infOf, conditionOf, literalOf, labelOf, members}
-use Rattle.hoa_text.specs.WrittenLabels.{separated-more}
+use Rattle.hoa_text.specs.WrittenFormulas.{separated-more}
 
 abbrev pub byteIf : Bool → ℕ → List ℕ
 byteIf test b = cond test (b ∷ []) []
