@@ -8,9 +8,9 @@ use lib.Dec.{eqb}
 use lib.ListN.{length, getD}
 use Rattle.meaning.specs.BitSet.{bit}
 use Rattle.meaning.specs.Automata.{EverySet}
+use Rattle.meaning.specs.MarkSets.{set-of-has}
 use Rattle.encoding.specs.Clauses.{_∪_, exactly-one, group₄}
 use Rattle.encoding.specs.Loops.{total}
-use Rattle.encoding.specs.MarkSets.{set-of-has}
 use Rattle.encoding.specs.Counts.{length₄}
 use Rattle.encoding.specs.NamedFile.{exactly-one-full}
 use Rattle.clause_sizes.specs.Targets.{named}

@@ -12,9 +12,9 @@ use Rattle.meaning.specs.BitSet.{digit, bit, has}
 use Rattle.meaning.specs.BitSetLaws.{has-or}
 use Rattle.meaning.specs.Tests.{all}
 use Rattle.meaning.specs.TestLaws.{all-same}
+use Rattle.meaning.specs.MarkSets.{has-low, has-half, all-has}
 use Rattle.encoding.specs.Clauses.{_∪_}
 use Rattle.encoding.specs.Loops.{total}
-use Rattle.encoding.specs.MarkSets.{has-low, has-half, all-has}
 use Rattle.clause_header.specs.Sums.{total-same, total-total, total-plus, passing}
 
 -- ---- sets without their lowest mark

@@ -7,9 +7,9 @@ use lib.Dec.{eqb}
 use lib.IntN.{ℤ}
 use lib.ListN.{getD}
 use Rattle.meaning.specs.Automata.{EverySet}
+use Rattle.meaning.specs.MarkSets.{set-of-has}
 use Rattle.encoding.specs.Variables.{Task}
 use Rattle.encoding.specs.Clauses.{_∪_, only, marks-of, totality, initial, successor, extension, closure, not-marks}
-use Rattle.encoding.specs.MarkSets.{set-of-has}
 use Rattle.encoding.specs.NamedFile.{exactly-one-full}
 use Rattle.encoding.specs.Positions.{at₁, successor-at, at₃, at₄}
 use Rattle.decimal.specs.Wrote.{Wrote}

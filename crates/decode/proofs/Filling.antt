@@ -10,9 +10,10 @@ use borrow.Author.Tests.{not-true, not-false}
 use lib.Dec.{eqb}
 use lib.ListN.{length, getD, set, length-set}
 use Rattle.meaning.specs.Automata.{Aut}
+use Rattle.meaning.specs.BitSet.{set-of}
 use Rattle.meaning.specs.CountingLaws.{filled-next}
 use Rattle.encoding.specs.Variables.{mark}
-use Rattle.encoding.specs.Clauses.{marks-of, set-of}
+use Rattle.encoding.specs.Clauses.{marks-of}
 use Rattle.clause_sizes.specs.declared.Sizes.{Sizes}
 use Rattle.clause_sizes.specs.Numbers.{numberOf}
 use Rattle.decode.specs.declared.cells.Cell.{Cell}

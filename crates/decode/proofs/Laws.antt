@@ -5,9 +5,8 @@ use Prim.Native.Nat.{ℕ, zero, suc, _+_, _-_, _*_, _≤_, _<_}
 use native.Mathlib.Nat.{add-zero, zero-add}
 use native.Mathlib.Omega.{arith}
 use lib.Pow.{pow-mono}
-use Rattle.meaning.specs.BitSet.{bit}
-use Rattle.encoding.specs.Clauses.{set-of}
-use Rattle.encoding.specs.MarkSets.{set-of-same, set-of-lt}
+use Rattle.meaning.specs.BitSet.{bit, set-of}
+use Rattle.meaning.specs.MarkSets.{set-of-same, set-of-lt}
 
 set-of-step : (k i : ℕ) (f : ℕ → Bool) → set-of k (λ j. f (suc i + j)) * 2 + bit (f i) ≡ set-of (suc k) (λ j. f (i + j))
 unfolding set-of

@@ -6,6 +6,7 @@ use Prim.Native.Nat.{ℕ, _≤_, _<_}
 use native.Mathlib.Omega.{arith}
 use Rattle.meaning.specs.Automata.{Aut}
 use Rattle.meaning.specs.BitSet.{has}
+use Rattle.meaning.specs.MarkSets.{set-of-lt, has-set-of, set-of-same}
 use Rattle.automaton.specs.declared.Automaton.{Automaton}
 use Rattle.automaton.specs.Value.{Valid, letters, markSet}
 use Rattle.automaton.specs.Value.{destination as destinationOf}
@@ -15,7 +16,6 @@ use Rattle.automaton.specs.Rows.{rows-length, rows-at}
 use Rattle.encoding.specs.Variables.{step, mark}
 use Rattle.encoding.specs.NamedFile.{step-first, mark-first}
 use Rattle.encoding.specs.Clauses.{Assignment, lowest, destination, marks-of, SameTable}
-use Rattle.encoding.specs.MarkSets.{set-of-lt, has-set-of, set-of-same}
 use Rattle.encoding.specs.Lowest.{lowest-true, lowest-same, lowest-passes}
 use Rattle.clause_sizes.specs.declared.Target.{Target}
 use Rattle.clause_sizes.specs.Targets.{Dimensioned, numbers, kept, named}

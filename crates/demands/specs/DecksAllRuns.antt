@@ -11,6 +11,7 @@ use lib.Dec.{eqb}
 use lib.IntN.{ℤ, pos, negsuc}
 use lib.ListN.{getD, replicate}
 use Rattle.meaning.specs.Agreement.{Agree}
+use Rattle.meaning.specs.BitSet.{set-of}
 use Rattle.meaning.specs.ClosedLoop.{CyclesAgree}
 use Rattle.meaning.specs.CycleLemma.{cycles→agree}
 use Rattle.automaton.specs.declared.Automaton.{Automaton}
@@ -19,7 +20,7 @@ use Rattle.refusals.specs.Refused.{row}
 use Rattle.automaton.specs.Value.{Valid}
 use Rattle.automaton.specs.View.{view}
 use Rattle.automaton.specs.ViewLaws.{view-formed}
-use Rattle.encoding.specs.Clauses.{each, only, set-of, not-marks, totality, initial, successor, extension, closure, exactly-one, group₁, group₂, group₃, group₄, file as task-file, Assignment, Satisfies, destination}
+use Rattle.encoding.specs.Clauses.{each, only, not-marks, totality, initial, successor, extension, closure, exactly-one, group₁, group₂, group₃, group₄, file as task-file, Assignment, Satisfies, destination}
 use Rattle.solver_scan.specs.declared.Verdict.the-variants.{Satisfiable}
 use Rattle.solver_scan.specs.SolverText.{Seen, gives, blank, digit, digit19, settled, judged, outcome}
 use Rattle.solver_agreement.specs.Assignment.{asserted}

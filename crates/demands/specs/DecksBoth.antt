@@ -5,12 +5,12 @@ use mathlib.Core.List.{[], _∷_, _++_, cons≢nil}
 use Prim.Native.Nat.{ℕ, _<_}
 use native.Mathlib.Omega.{arith}
 use lib.Arith.{lt-one}
-use Rattle.meaning.specs.BitSet.{has}
+use Rattle.meaning.specs.BitSet.{has, set-of}
 use Rattle.meaning.specs.ClosedLoop.{CyclesAgree}
 use Rattle.meaning.specs.CycleLemma.{agree→cycles}
 use Rattle.automaton.specs.View.{view}
 use Rattle.automaton.specs.ViewLaws.{view-formed}
-use Rattle.encoding.specs.Clauses.{each, only, set-of, not-marks, totality, initial, successor, extension, closure, exactly-one, group₁, group₂, group₃, group₄, file as task-file, decoded}
+use Rattle.encoding.specs.Clauses.{each, only, not-marks, totality, initial, successor, extension, closure, exactly-one, group₁, group₂, group₃, group₄, file as task-file, decoded}
 use Rattle.encoding.specs.NamedFile.{named-encodes}
 use Rattle.automaton.specs.Bytes.{bytes}
 use Rattle.clause_sizes.specs.Targets.{named, task, numbers, file}

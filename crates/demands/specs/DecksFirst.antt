@@ -6,9 +6,10 @@ use Prim.Native.Nat.{ℕ}
 use native.Mathlib.Omega.{arith}
 use lib.IntN.{negsuc}
 use lib.ListN.{length}
+use Rattle.meaning.specs.BitSet.{set-of}
 use Rattle.automaton.specs.declared.Automaton.{Automaton}
 use Rattle.automaton.specs.Value.{Valid}
-use Rattle.encoding.specs.Clauses.{each, only, set-of, not-marks, totality, initial, successor, extension, closure, exactly-one, group₁, group₂, group₃, group₄, file as task-file}
+use Rattle.encoding.specs.Clauses.{each, only, not-marks, totality, initial, successor, extension, closure, exactly-one, group₁, group₂, group₃, group₄, file as task-file}
 use Rattle.encoding.specs.Satisfaction.{no-literal, one-literal, premise}
 use Rattle.decimal.specs.Decimal.{decimal}
 use Rattle.clause_sizes.specs.declared.Target.{Target}

@@ -8,7 +8,7 @@ use lib.Bits.{bitOr}
 use lib.IntN.{ℤ, pos, negsuc, negℤ}
 use Rattle.meaning.specs.Automata.{Aut, WellFormed}
 use Rattle.meaning.specs.Agreement.{Agree}
-use Rattle.meaning.specs.BitSet.{bit, has}
+use Rattle.meaning.specs.BitSet.{has, set-of}
 use Rattle.encoding.specs.Variables.{Task, Var, step, mark, path}
 
 -- ---- loops
@@ -24,11 +24,6 @@ only true a = a ∷ []
 only false a = []
 
 -- ---- sets of marks, "bit i for set i"
-
--- the set of the i below k that pass the test
-unfoldable pub set-of : ℕ → (ℕ → Bool) → ℕ
-set-of zero f = 0
-set-of (suc k) f = set-of k (λ i. f (suc i)) * 2 + bit (f zero)
 
 -- the marks of the transition from v by l
 abbrev pub marks-of : Aut → ℕ → ℕ → ℕ

@@ -16,9 +16,9 @@ use Rattle.meaning.specs.Walk.{run}
 use Rattle.meaning.specs.Run.{after, seen}
 use Rattle.meaning.specs.ClosedLoop.{CyclesAgree}
 use Rattle.meaning.specs.CycleLemma.{agree→cycles}
+use Rattle.meaning.specs.MarkSets.{set-of-has, set-of-same}
 use Rattle.encoding.specs.Variables.{Task, Var, step, mark, path, Present}
 use Rattle.encoding.specs.Clauses.{marks-of, _∪_}
-use Rattle.encoding.specs.MarkSets.{set-of-has, set-of-same}
 use Rattle.encoding.specs.WellPosed.{WellPosed, node-present}
 use Rattle.encoding.specs.Constraints.{Constraints, Marked}
 use Rattle.encoding.specs.History.{Node, history-accept, move, run-move}

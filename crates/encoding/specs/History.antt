@@ -8,8 +8,8 @@ use Rattle.meaning.specs.BitSet.{has}
 use Rattle.meaning.specs.BitSetLaws.{has-or, has-zero}
 use Rattle.meaning.specs.Walk.{run}
 use Rattle.meaning.specs.Run.{seen}
+use Rattle.meaning.specs.MarkSets.{has-set-of}
 use Rattle.encoding.specs.Clauses.{marks-of, _∪_}
-use Rattle.encoding.specs.MarkSets.{has-set-of}
 
 -- the sets of I, and those that A sees as it reads y from the state q
 abbrev pub history : Aut → ℕ → ℕ → List ℕ → ℕ

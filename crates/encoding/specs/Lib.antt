@@ -3,7 +3,6 @@ pub mod Clauses
 pub mod Named
 pub mod SameTables
 pub mod Loops
-pub mod MarkSets
 pub mod Membership
 pub mod Positions
 pub mod ByPosition

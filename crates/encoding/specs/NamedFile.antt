@@ -10,10 +10,10 @@ use lib.ListN.{length}
 use Rattle.meaning.specs.Automata.{Aut, WellFormed, EverySet}
 use Rattle.meaning.specs.BitSet.{has}
 use Rattle.meaning.specs.TestLaws.{all-same}
+use Rattle.meaning.specs.MarkSets.{set-of-lt, all-has}
 use Rattle.encoding.specs.Variables.{Task, Var, step, mark, path, Present}
 use Rattle.encoding.specs.Clauses.{_∪_, marks-of, exactly-one, group₄}
 use Rattle.encoding.specs.Named.{Named, KindFor, taskFor, marksFor, pathsFor, numberFor, tableVariablesFor, variablesFor, fileFor}
-use Rattle.encoding.specs.MarkSets.{set-of-lt, all-has}
 use Rattle.encoding.specs.WellPosed.{WellPosed}
 use Rattle.encoding.specs.Numbering.{Numbering, MarkLaws, PathLaws, numbering, variable, representative, variable-number}
 use Rattle.encoding.specs.Blocks.{transition-marks-laws, mark-at-place, all-paths-laws}

@@ -16,8 +16,8 @@ use Rattle.meaning.specs.ShortWalk.{Numbered, ok-run}
 use Rattle.meaning.specs.Reachability.{Step, reach, reach-exact}
 use Rattle.meaning.specs.Product.{over-walk, walk-over}
 use Rattle.meaning.specs.LassoWord.{over-append}
+use Rattle.meaning.specs.MarkSets.{set-of-lt}
 use Rattle.encoding.specs.Clauses.{marks-of}
-use Rattle.encoding.specs.MarkSets.{set-of-lt}
 use Rattle.encoding.specs.History.{Node, move}
 
 module _ (C R : Aut) where

@@ -13,9 +13,9 @@ use Rattle.meaning.specs.LassoWord.{over-append}
 use Rattle.meaning.specs.Run.{after, run-lt}
 use Rattle.meaning.specs.ClosedLoop.{CyclesAgree}
 use Rattle.meaning.specs.CycleLemma.{cycles→agree}
+use Rattle.meaning.specs.MarkSets.{set-of-lt, has-set-of}
 use Rattle.encoding.specs.Variables.{Task, Var, step, path, Present}
 use Rattle.encoding.specs.Clauses.{Assignment, destination, decoded, marks-of, _∪_, Equivalent}
-use Rattle.encoding.specs.MarkSets.{set-of-lt, has-set-of}
 use Rattle.encoding.specs.WellPosed.{WellPosed, node-present, extension-present}
 use Rattle.encoding.specs.Constraints.{Constraints, Marked}
 use Rattle.encoding.specs.History.{history, history-accept}

@@ -8,9 +8,9 @@ use lib.Pow.{pow-pos}
 use Rattle.meaning.specs.Automata.{Aut, WellFormed}
 use Rattle.meaning.specs.Agreement.{Over}
 use Rattle.meaning.specs.Walk.{run}
+use Rattle.meaning.specs.MarkSets.{set-of-lt}
 use Rattle.encoding.specs.Variables.{Task, step, path, Present}
 use Rattle.encoding.specs.Clauses.{marks-of, _∪_}
-use Rattle.encoding.specs.MarkSets.{set-of-lt}
 
 -- The reference is well-formed; the candidate's acceptance depends on its own sets only; there is a state; and two reference states that lie
 -- on one closed walk have their path variables.

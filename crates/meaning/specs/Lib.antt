@@ -28,3 +28,4 @@ pub mod FirstWordExamples
 pub mod AllWords
 pub mod BitSet
 pub mod BitSetLaws
+pub mod MarkSets

@@ -7,11 +7,10 @@ use native.Mathlib.Omega.{arith}
 use lib.Arith.{digits-div, digits-mod, lt-one}
 use lib.Dec.{eqb}
 use borrow.Author.Tests.{eq-eqb, eqb-true}
-use Rattle.meaning.specs.BitSet.{digit, bit, has}
+use Rattle.meaning.specs.BitSet.{digit, bit, has, set-of}
 use Rattle.meaning.specs.BitSetLaws.{digit-bit, full-mod, mod-full}
 use Rattle.meaning.specs.Tests.{all}
 use Rattle.meaning.specs.TestLaws.{same-truth}
-use Rattle.encoding.specs.Clauses.{set-of}
 
 bit-lt : (b : Bool) → bit b < 2
 bit-lt true = omega arith
