@@ -1,4 +1,4 @@
--- EQUAL AUTOMATA ARE EQUAL VALUES: two values in "The automaton" with the same counts, names, transitions and marks are one.
+-- EQUAL AUTOMATA ARE EQUAL VALUES: two values in "The automaton" with the same counts, acceptance, names, transitions and marks are one.
 use mathlib.Core.Path.{_≡_, sym, ap, _∙_, subst}
 use mathlib.Core.Logic.{_⊎_, inl, inr}
 use Prim.Native.Nat.{ℕ, _^_, _≤_, _<_}
@@ -19,6 +19,7 @@ pub record Same (a b : Automaton) : Type 0 where
   pub start : a .start ≡ b .start
   pub propositions : a .propositions ≡ b .propositions
   pub sets : a .sets ≡ b .sets
+  pub acceptance : a .acceptance ≡ b .acceptance
   pub steps : (q l : ℕ) → q < a .states → l < letters a → view a .step q l ≡ view b .step q l
   pub marks : (q l i : ℕ) → q < a .states → l < letters a → i < a .sets → view a .marks q l i ≡ view b .marks q l i
   pub names : (i : ℕ) → i < a .propositions → name a i ≡ name b i
@@ -94,6 +95,7 @@ module _ {a b : Automaton} (v : Valid a) (w : Valid b) (s : Same a b) where
         start = s .start i;
         propositions = s .propositions i;
         sets = s .sets i;
+        acceptance = s .acceptance i;
         lengths = lengths i;
         names = names i;
         destinations = same-destinations i;

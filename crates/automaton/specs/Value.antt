@@ -3,7 +3,7 @@ use mathlib.Core.Path.{_≡_}
 use mathlib.Core.Logic.{_≢_, _⊎_}
 use mathlib.Core.Bool.{Bool, not, _&&_}
 use mathlib.Core.List.{List, [], _∷_}
-use Prim.Native.Nat.{ℕ, _+_, _*_, _/_, _%_, _^_, _≤_, _<_}
+use Prim.Native.Nat.{ℕ, _+_, _-_, _*_, _/_, _%_, _^_, _≤_, _<_, min}
 use lib.Dec.{leb, eqb}
 use lib.ListN.{length, getD, take, drop, replicate}
 use Rattle.meaning.specs.Counting.{each}
@@ -48,11 +48,18 @@ empty = record {
   start = 0;
   propositions = 0;
   sets = 0;
+  acceptance = 0;
   lengths = replicate 4 0;
   names = replicate 64 0;
   destinations = replicate 256 0;
   marks = replicate 256 0;
 }
+
+-- ---- acceptance, as a mask: bit M says yes for the set of marks M
+
+-- "a run is accepting if every set is met infinitely often": yes for all sets together only; past 4 sets that of 4
+abbrev pub everySet : ℕ → ℕ
+everySet sets = 2 ^ (2 ^ min sets 4 - 1)
 
 -- ---- "The automaton"
 
@@ -77,6 +84,8 @@ pub record Valid (a : Automaton) : Type 0 where
   pub start-lt : a .start < a .states
   pub propositions-le : a .propositions ≤ 4
   pub sets-le : a .sets ≤ 4
+  -- for now only "a run is accepting if every set is met infinitely often"
+  pub acceptance-is : a .acceptance ≡ 2 ^ (2 ^ a .sets - 1)
   -- destinations are states, and marks are sets that there are
   pub destination-lt : (q l : ℕ) → q < a .states → l < letters a → destination a q l < a .states
   pub marks-lt : (q l : ℕ) → q < a .states → l < letters a → markSet a q l < 2 ^ a .sets

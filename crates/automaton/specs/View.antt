@@ -1,11 +1,10 @@
 -- DEFINITION: a value as an automaton of `meaning`.
-use Rattle.meaning.specs.Tests.{all}
-use Rattle.meaning.specs.BitSet.{has}
+use Rattle.meaning.specs.BitSet.{has, set-of}
 use Rattle.meaning.specs.Automata.{Aut}
 use Rattle.automaton.specs.declared.Automaton.{Automaton}
 use Rattle.automaton.specs.Value.{letters, destination, markSet}
 
--- bit i of a set of marks is the set i; "a run is accepting if every set is met infinitely often"
+-- bit i of a set of marks is the set i, and bit M of the acceptance its answer for the set of marks M
 abbrev pub view : Automaton → Aut
 view a = record {
   states = a .states;
@@ -14,5 +13,5 @@ view a = record {
   start = a .start;
   step = destination a;
   marks = λ q l. has (markSet a q l);
-  accept = all (a .sets);
+  accept = λ S. has (a .acceptance) (set-of (a .sets) S);
 }

@@ -1,10 +1,11 @@
 // The automaton as a value, its limits, and the test that a value lies in "The automaton".
 use bits::powers::power_of_two;
+use bits::sets::single;
 ghost use mathlib.Core.Path.{_≡_};
 ghost use mathlib.Core.Logic.{_↔_};
 ghost use mathlib.Core.Bool.{true};
-ghost use Rattle.automaton.specs.Tests.{countsFit, fits, tablesFit};
-ghost use Rattle.automaton.specs.Value.{Valid, empty};
+ghost use Rattle.automaton.specs.Tests.{acceptanceFits, countsFit, fits, tablesFit};
+ghost use Rattle.automaton.specs.Value.{Valid, empty, everySet};
 
 pub mod names;
 mod naming;
@@ -12,12 +13,14 @@ pub mod states;
 mod tables;
 
 // Transitions stand at `state * LETTERS + letter`, the bytes of name i from `i * NAME` on. A set of marks is a number:
-// bit i for the set i. Slots that are not in use are 0, so that equal automata are equal values.
+// bit i for the set i. The acceptance is a mask: bit M says whether a run that meets just the sets of M infinitely often is
+// accepting. Slots that are not in use are 0, so that equal automata are equal values.
 pub struct Automaton {
     pub states: usize,
     pub start: usize,
     pub propositions: usize,
     pub sets: usize,
+    pub acceptance: u16,
     pub lengths: [u8; Automaton::PROPOSITIONS],
     pub names: [u8; Automaton::NAMES],
     pub destinations: [u8; Automaton::CELLS],
@@ -51,11 +54,20 @@ impl Automaton {
             start: 0,
             propositions: 0,
             sets: 0,
+            acceptance: 0,
             lengths: [0u8; Automaton::PROPOSITIONS],
             names: [0u8; Automaton::NAMES],
             destinations: [0u8; Automaton::CELLS],
             marks: [0u8; Automaton::CELLS],
         }
+    }
+
+    // The acceptance of document 01: yes for all sets together, and for no other set of marks. Past the sets that there can
+    // be, that of the most there are.
+    pub fn every_set(sets: usize) -> u16
+        ensures { λ r. ⌜ r ≡ everySet sets ⌝ }
+    {
+        single(power_of_two(sets) - 1)
     }
 
     // Whether the value lies in "The automaton".
@@ -71,6 +83,9 @@ fn fits(a: Automaton) -> bool
     ensures { λ r. ⌜ r ≡ fits a ⌝ }
 {
     if !counts_fit(a.states, a.start, a.propositions, a.sets) {
+        return false;
+    }
+    if !acceptance_fits(a.acceptance, a.sets) {
         return false;
     }
     if !tables_fit(a) {
@@ -95,6 +110,12 @@ fn counts_fit(states: usize, start: usize, propositions: usize, sets: usize) -> 
         return false;
     }
     sets <= Automaton::SETS
+}
+
+fn acceptance_fits(acceptance: u16, sets: usize) -> bool
+    ensures { λ r. ⌜ r ≡ acceptanceFits acceptance sets ⌝ }
+{
+    acceptance == Automaton::every_set(sets)
 }
 
 // Destinations are states, and marks are sets that there are.

@@ -1,14 +1,16 @@
 -- The counts of the header.
 use mathlib.Core.Path.{_≡_, refl, sym, ap, ap₂, _∙_}
-use mathlib.Core.Logic.{_≢_}
+use mathlib.Core.Bool.{true, false}
 use Prim.Native.Nat.{ℕ, _+_, _-_, _*_, _/_, _%_, _^_, _≤_, _<_}
-use native.Mathlib.Nat.{mul-le-mul}
+use native.Mathlib.Nat.{mul-le-mul, le-antisymm}
 use native.Mathlib.Numerals.{add-one}
 use native.Mathlib.Omega.{arith}
-use borrow.Author.Tests.{eq-eqb, ne-eqb}
 use lib.ListN.{length}
+use lib.Pow.{pow-pos}
+use Rattle.meaning.specs.BitSet.{bit, has}
 use Rattle.automaton.specs.declared.Automaton.{Automaton}
 use Rattle.automaton.specs.Value.{Valid}
+use Rattle.encoding.specs.Clauses.{_∪_}
 use Rattle.encoding.specs.Loops.{total}
 use Rattle.encoding.specs.NamedFile.{named-length}
 use Rattle.encoding.specs.Numbering.{split}
@@ -22,10 +24,10 @@ use Rattle.clause_sizes.specs.Numbers.{counted, lastVariable}
 use Rattle.clause_indices.specs.declared.extent.Extent.{Extent}
 use Rattle.clause_sizes.specs.Measured.{Measured}
 use Rattle.clause_list.specs.Tables.{tabled}
-use Rattle.clause_list.specs.Measured.{measured-tables}
+use Rattle.clause_list.specs.Measured.{measured-tables, measured-view}
 use Rattle.clause_indices.specs.Indices.{ExtentOf}
-use Rattle.clause_header.specs.FullPairs.{full-pairs-le}
-use Rattle.clause_header.specs.ClosureCount.{pairsFor, closureCount, closure-length}
+use Rattle.clause_header.specs.Sums.{total-total}
+use Rattle.clause_header.specs.ClosureCount.{yesPairs, pairsFor, closureCount, closure-length}
 use Rattle.clause_header.specs.declared.Totals.{Totals}
 use Rattle.clause_header.specs.declared.Totals.the-variants.{Of, Refused}
 use Rattle.clause_header.specs.Header.{HeaderTotals, Headed}
@@ -42,19 +44,32 @@ total-more i h e q = rw (add-one i) (ap₂ _+_ e q)
 
 -- ---- the pairs I, K
 
+-- 1 where the candidate's acceptance says yes for the pair that stands at x
+abbrev pub yesAt : Sizes → ℕ → ℕ
+yesAt z x = bit (has (z .candidate .acceptance) (x / z .candidate .subsets ∪ x % z .candidate .subsets))
+
 module _ {z : Sizes} (f : Fitting z) where
   pub pairs-le : z .candidate .subsets * z .candidate .subsets ≤ 256
   pairs-le = mul-le-mul (candidate-subsets-le f) (candidate-subsets-le f)
 
-  pub full-le : {p : ℕ} → p ≡ 3 ^ z .candidate .sets → p ≤ z .candidate .subsets * z .candidate .subsets
-  full-le e = rw (e, f .candidate-subsets) (full-pairs-le (z .candidate .sets))
+  pub own-some : 0 < z .candidate .subsets
+  own-some = omega (arith, f .candidate-subsets, pow-pos (z .candidate .sets))
 
-  pub pairs-other : {p : ℕ} (u : ℕ) → p ≡ 3 ^ z .candidate .sets → u ≡ z .reference .subsets - 1
-      → z .candidate .subsets * z .candidate .subsets - p ≡ pairsFor z u
-  pairs-other u e q = rw (e, f .candidate-subsets, eq-eqb u (2 ^ z .reference .sets - 1) (q ∙ ap (λ x. x - 1) (f .reference-subsets)))
+  -- the reference says yes, so the candidate is to say no
+  pub pairs-no : (accepted u : ℕ) → has (z .reference .acceptance) u ≡ true → z .candidate .subsets * z .candidate .subsets - accepted ≡ pairsFor z accepted u
+  pairs-no accepted u e = rw (f .candidate-subsets, e)
 
-  pub pairs-full : {p : ℕ} (u : ℕ) → p ≡ 3 ^ z .candidate .sets → u ≢ z .reference .subsets - 1 → p ≡ pairsFor z u
-  pairs-full u e q = rw (e, ne-eqb u (2 ^ z .reference .sets - 1) (λ i. q (i ∙ ap (λ x. x - 1) (sym (f .reference-subsets)))))
+  pub pairs-yes : (accepted u : ℕ) → has (z .reference .acceptance) u ≡ false → accepted ≡ pairsFor z accepted u
+  pairs-yes accepted u e = rw e
+
+  -- all pairs in a row
+  pub in-a-row : {x c : ℕ} → z .candidate .subsets * z .candidate .subsets ≤ x → x ≤ z .candidate .subsets * z .candidate .subsets
+      → c ≡ total x (yesAt z) → c ≡ yesPairs z
+  in-a-row {x} {c} g h e =
+      let i : x ≡ z .candidate .subsets * z .candidate .subsets = le-antisymm h g in
+      e ∙ ap (λ n. total n (yesAt z)) i
+      ∙ ap (λ M. total (M * M) (λ x. bit (has (z .candidate .acceptance) (x / M ∪ x % M)))) (f .candidate-subsets)
+      ∙ sym (total-total (2 ^ z .candidate .sets) (2 ^ z .candidate .sets) (λ I K. bit (has (z .candidate .acceptance) (I ∪ K))))
 
   -- ---- the transitions
 
@@ -90,7 +105,7 @@ module _ {a : Automaton} {z : Sizes} (w : Measured a z) where
         closure-length z (a .start) (a .destinations) (a .marks) (measured-tables w),
         ap (λ c. z .candidate .states * z .candidate .states * c) e,
       )
-      ∙ ap (λ y. length (fileFor (tabled y (a .start) (a .destinations) (a .marks)) (named (targetOf z)))) (w .sized)
+      ∙ ap (λ A. length (fileFor A (named (targetOf z)))) (measured-view w)
 
 -- the header's answer, where nothing is turned down
 pub headed : (a : Automaton) (τ : Target) (t : Totals) → Valid a → Dimensioned τ → HeaderTotals a τ t → Headed a τ t

@@ -1,4 +1,3 @@
 pub mod Sums
-pub mod FullPairs
 pub mod ClosureCount
 pub mod Header

@@ -1,6 +1,7 @@
 // The numbers of the header: V variables and C clauses, counted and not listed.
 use automaton::Automaton;
 use automaton::states::ReferenceState;
+use bits::sets::has;
 use clause_indices::entry;
 use clause_indices::extent::extent_of;
 use clause_sizes::Sized;
@@ -10,11 +11,12 @@ use clause_sizes::last_variable;
 use clause_sizes::measure;
 use refusals::Refusal;
 ghost use mathlib.Core.Path.{_≡_};
-ghost use Prim.Native.Nat.{_^_, _≤_, _<_};
+ghost use Prim.Native.Nat.{_*_, _≤_, _<_};
+ghost use Rattle.meaning.specs.BitSet.{bit, has};
 ghost use Rattle.clause_sizes.specs.Sizes.{Fitting, targetOf};
 ghost use Rattle.clause_sizes.specs.Measured.{Measured};
 ghost use Rattle.clause_header.specs.Header.{Headed, HeaderTotals};
-ghost use Rattle.clause_header.specs.ClosureCount.{pairsFor, closuresBy, closureCount};
+ghost use Rattle.clause_header.specs.ClosureCount.{yesPairs, pairsFor, closuresBy, closureCount};
 
 pub enum Totals {
     // V, then C.
@@ -51,52 +53,65 @@ fn closure_count(z: Sizes, marks: &[u8; Automaton::CELLS]) -> usize
     ensures { λ r. ⌜ (r ≡ closureCount z (now (marks .entry))) × (r ≤ 1048576) ⌝ }
 {
     let transitions = z.reference.states * z.letters;
+    let accepted = yes_pairs(z);
     let mut count: usize = 0;
     let mut y: usize = 0;
     while y < transitions {
         let f = entry(marks, ReferenceState(y / z.letters), y % z.letters);
-        count += closures_by(z, f);
+        count += closures_by(z, accepted, f);
         y += 1;
     }
     count
 }
 
-// For one transition with the marks f, summed over J.
-fn closures_by(z: Sizes, f: usize) -> usize
-    requires { ⌜ Fitting z ⌝ }
-    ensures { λ r. ⌜ (r ≡ closuresBy z f) × (r ≤ 4096) ⌝ }
+// For one transition with the marks f, summed over J. `accepted` is the number of pairs I, K that the candidate's acceptance says yes for.
+fn closures_by(z: Sizes, accepted: usize, f: usize) -> usize
+    requires { ⌜ Fitting z × (accepted ≤ z .candidate .subsets * z .candidate .subsets) ⌝ }
+    ensures { λ r. ⌜ (r ≡ closuresBy z accepted f) × (r ≤ 4096) ⌝ }
 {
     let mut count: usize = 0;
     let mut j: usize = 0;
     while j < z.reference.subsets {
-        count += pairs_for(z, j | f);
+        count += pairs_for(z, accepted, j | f);
         j += 1;
     }
     count
 }
 
-// How many pairs I, K there are of which exactly one of "I∪K is all m" and "J∪F is all s" is true, where J∪F is the union.
-fn pairs_for(z: Sizes, union: usize) -> usize
-    requires { ⌜ Fitting z ⌝ }
-    ensures { λ r. ⌜ (r ≡ pairsFor z union) × (r ≤ 256) ⌝ }
+// How many pairs I, K there are of which exactly one of "I∪K is all m" and "J∪F is all s" is true, where J∪F is the union: where the
+// reference's acceptance says yes for it, those that the candidate's says no for, and else the others.
+fn pairs_for(z: Sizes, accepted: usize, union: usize) -> usize
+    requires { ⌜ Fitting z × (accepted ≤ z .candidate .subsets * z .candidate .subsets) ⌝ }
+    ensures { λ r. ⌜ (r ≡ pairsFor z accepted union) × (r ≤ 256) ⌝ }
 {
-    let full = full_pairs(z.candidate.sets);
-    if union == z.reference.subsets - 1 {
-        return z.candidate.subsets * z.candidate.subsets - full;
+    if has(z.reference.acceptance, union) {
+        return z.candidate.subsets * z.candidate.subsets - accepted;
     }
-    full
+    accepted
 }
 
-// How many pairs of sets of candidate marks have the full set for their union: each mark is in the one, the other, or both.
-fn full_pairs(m: usize) -> usize
-    requires { ⌜ m ≤ 4 ⌝ }
-    ensures { λ r. ⌜ (r ≡ 3 ^ m) × (r ≤ 81) ⌝ }
+// How many pairs I, K have a union that the candidate's acceptance says yes for: all pairs stand in a row, at I * subsets + K.
+fn yes_pairs(z: Sizes) -> usize
+    requires { ⌜ Fitting z ⌝ }
+    ensures { λ r. ⌜ (r ≡ yesPairs z) × (r ≤ z .candidate .subsets * z .candidate .subsets) ⌝ }
 {
-    match m {
-        0 => 1,
-        1 => 3,
-        2 => 9,
-        3 => 27,
-        _ => 81,
+    let own = z.candidate.subsets;
+    let pairs = own * own;
+    let mut count: usize = 0;
+    let mut x: usize = 0;
+    while x < pairs {
+        count += answer(z.candidate.acceptance, x / own | x % own);
+        x += 1;
     }
+    count
+}
+
+// 1 where an acceptance says yes for a set of marks.
+fn answer(acceptance: u16, marks: usize) -> usize
+    ensures { λ r. ⌜ (r ≡ bit (has acceptance marks)) × (r ≤ 1) ⌝ }
+{
+    if has(acceptance, marks) {
+        return 1;
+    }
+    0
 }

@@ -2,14 +2,14 @@
 use mathlib.Core.Path.{_≡_, refl, sym, ap, _∙_, subst}
 use mathlib.Core.Logic.{⊎-elim}
 use mathlib.Core.List.{List, [], _∷_, List·Memᴰ, List·Memᴰ·head, List·Memᴰ·tail}
-use Prim.Native.Nat.{ℕ, zero, suc, _+_, _*_, _^_, _≤_, _<_}
-use native.Mathlib.Nat.{mul-one, mul-le-mul}
+use Prim.Native.Nat.{ℕ, zero, suc, _+_, _*_, _≤_, _<_}
+use native.Mathlib.Nat.{mul-one}
 use native.Mathlib.Omega.{arith}
 use lib.IntN.{ℤ, pos, negsuc, negℤ, natAbs}
 use lib.ListN.{length, length-append}
-use lib.Pow.{pow-mono}
 use Rattle.meaning.specs.Automata.{Aut, WellFormed}
-use Rattle.meaning.specs.TestLaws.{all-same}
+use Rattle.meaning.specs.BitSet.{has}
+use Rattle.meaning.specs.MarkSets.{set-of-same}
 use Rattle.automaton.specs.declared.Automaton.{Automaton}
 use Rattle.automaton.specs.Value.{Valid}
 use Rattle.automaton.specs.View.{view}
@@ -27,6 +27,7 @@ use Rattle.clause_sizes.specs.Targets.{named, Dimensioned, task, numbers, file}
 use Rattle.clause_sizes.specs.declared.Sizes.{Sizes}
 use Rattle.clause_sizes.specs.Numbers.{numberOf}
 use Rattle.clause_sizes.specs.Sizes.{targetOf}
+use Rattle.clause_sizes.specs.Limits.{sizes-fit, last-le}
 use Rattle.clause_list.specs.Tables.{tabled, taskOf, Tables}
 use Rattle.clause_list.specs.Next.{handed, next-clause, clauses-from}
 use Rattle.clause_list.specs.Following.{from-in-file, found-in-file}
@@ -68,28 +69,17 @@ abs-negated (suc k) = refl
 literal-variable : (num : Var → ℕ) (x : ℤ) (y : Var) → IsLiteral num x y → natAbs x ≡ num y
 literal-variable num x y = ⊎-elim (λ e. ap natAbs e) (λ e. ap natAbs e ∙ abs-negated (num y))
 
-pub variables-le : (R : Aut) (t : Named) → t .n ≤ 8 → t .m ≤ 4 → R .states ≤ 16 → R .letters ≤ 16 → R .sets ≤ 4 → variablesFor R t ≤ 4_199_424
-variables-le R t hn hm hr hL hs =
-    let n = t .n in
-    let m = t .m in
-    let M : 2 ^ m ≤ 16 = pow-mono {j = 4} hm in
-    let S : 2 ^ R .sets ≤ 16 = pow-mono {j = 4} hs in
-    let steps : n * n * R .letters ≤ 1024 = mul-le-mul (mul-le-mul hn hn) hL in
-    let marks : n * n * R .letters * m ≤ 4096 = mul-le-mul steps hm in
-    let paths : n * R .states * n * R .states * 2 ^ m * 2 ^ R .sets ≤ 4_194_304 = mul-le-mul (mul-le-mul (mul-le-mul (mul-le-mul (mul-le-mul hn hr) hn) hr) M) S in
-    omega arith
-
 -- a line of the file
-file-line-le : (R : Aut) (t : Named) → WellFormed R → 0 < t .n → t .n ≤ 8 → t .m ≤ 4 → R .states ≤ 16 → R .letters ≤ 16 → R .sets ≤ 4
+file-line-le : (R : Aut) (t : Named) → WellFormed R → 0 < t .n → t .n ≤ 8 → t .m ≤ 4 → variablesFor R t ≤ 4_199_424
     → (c : List ℤ) → List·Memᴰ c (fileFor R t) → length (lineText c) ≤ 80
-file-line-le R t F some hn hm hr hL hs c k =
+file-line-le R t F some hn hm hV c k =
     let num = numberFor R t in
     omega (
       arith,
       clause-length (taskFor R t) num c hn hm (listed (taskFor R t) num c .0 k),
       line-le c (λ x i.
           let (y, here, e) = literals (named-well-posed R t F some) num c k x i in
-          omega (arith, literal-variable num x y e, named-numbering R t .to-last y here, variables-le R t hn hm hr hL hs)),
+          omega (arith, literal-variable num x y e, named-numbering R t .to-last y here, hV)),
     )
 
 pub found-line-le : (z : Sizes) (start : ℕ) (destinations marks : List ℕ) → Tables z destinations marks → start < z .reference .states
@@ -97,12 +87,12 @@ pub found-line-le : (z : Sizes) (start : ℕ) (destinations marks : List ℕ) �
 found-line-le z start destinations marks tables h {c} x e =
     let f = tables .fits in
     file-line-le (tabled z start destinations marks) (named (targetOf z))
-    (record { start-lt = h; step-lt = tables .step-lt; own-sets = all-same (z .reference .sets) })
-    (f .n-some) (f .n-le) (f .m-le) (f .r-le) (f .letters-le) (f .s-le) c (found-in-file (taskOf z start destinations marks) (numberOf z) x e)
+    (record { start-lt = h; step-lt = tables .step-lt; own-sets = λ S T e. ap (has (z .reference .acceptance)) (set-of-same (z .reference .sets) S T e) })
+    (f .n-some) (f .n-le) (f .m-le) (last-le f) c (found-in-file (taskOf z start destinations marks) (numberOf z) x e)
 
 module _ {a : Automaton} {τ : Target} (v : Valid a) (d : Dimensioned τ) where
   reference-line-le : (c : List ℤ) → List·Memᴰ c (file a τ) → length (lineText c) ≤ 80
-  reference-line-le = file-line-le (view a) (named τ) (view-formed v) (d .n-some) (d .n-le) (d .m-le) (v .states-le) (pow-mono {j = 4} (v .propositions-le)) (v .sets-le)
+  reference-line-le = file-line-le (view a) (named τ) (view-formed v) (d .n-some) (d .n-le) (d .m-le) (last-le (sizes-fit v d))
 
   -- the line of a clause that is handed out, or is left, of the file for a reference
   pub step-line-le : (x : ℕ) {c : List ℤ} {y : ℕ} → found-from a τ x ≡ handed c y → length (lineText c) ≤ 80

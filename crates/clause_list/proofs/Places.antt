@@ -21,7 +21,7 @@ use Rattle.clause_indices.specs.Indices.{Within, ExtentIfAny, EntryIfAny, Indic
 use Rattle.clause_list.specs.Groups.{Successive, successorOf, extensionOf}
 use Rattle.clause_list.specs.Tables.{StepsWithin, Tables}
 use Rattle.clause_list.specs.Digits.{MarkingOf, TransitionOf, closureIndices}
-use Rattle.clause_list.specs.Position.{Stands, none, one, successorAt, extensionAt, closureAt, oneFull}
+use Rattle.clause_list.specs.Position.{Stands, none, one, successorAt, extensionAt, closureAt, disagree}
 
 module _ (z : Sizes) where
   -- the indices of groups 3 and 4, from what is left of a position after its sets of marks and its transition
@@ -151,16 +151,16 @@ module _ (z : Sizes) (destinations marks : List ℕ) where
   -- ---- group 4
 
   module _ (x : ℕ) {f : ℕ} {i : Indices} (q : i ≡ closureIndices z destinations x) (p : f ≡ getD marks (i .v .0 * 16 + i .l) 0) where
-    closure-test : only (oneFull z (i .i ∪ i .k) (i .j ∪ f)) (premiseOf z i) ≡ closureAt z destinations marks x
+    closure-test : only (disagree z (i .i ∪ i .k) (i .j ∪ f)) (premiseOf z i) ≡ closureAt z destinations marks x
     closure-test =
-        ap (λ f. only (oneFull z (i .i ∪ i .k) (i .j ∪ f)) (premiseOf z i)) p
-        ∙ ap (λ i. only (oneFull z (i .i ∪ i .k) (i .j ∪ getD marks (i .v .0 * 16 + i .l) 0)) (premiseOf z i)) q
+        ap (λ f. only (disagree z (i .i ∪ i .k) (i .j ∪ f)) (premiseOf z i)) p
+        ∙ ap (λ i. only (disagree z (i .i ∪ i .k) (i .j ∪ getD marks (i .v .0 * 16 + i .l) 0)) (premiseOf z i)) q
 
-    pub closure-none : {d : List ℤ} → oneFull z (i .i ∪ i .k) (i .j ∪ f) ≡ false → Stands d (closureAt z destinations marks x) d 0
+    pub closure-none : {d : List ℤ} → disagree z (i .i ∪ i .k) (i .j ∪ f) ≡ false → Stands d (closureAt z destinations marks x) d 0
     unfolding only
     closure-none t = none (sym closure-test ∙ ap (λ b. only b (premiseOf z i)) t) refl refl
 
-    pub closure-written : {d e : List ℤ} {r : ℕ} → oneFull z (i .i ∪ i .k) (i .j ∪ f) ≡ true → Wrote d 0 (premiseOf z i) e r
+    pub closure-written : {d e : List ℤ} {r : ℕ} → disagree z (i .i ∪ i .k) (i .j ∪ f) ≡ true → Wrote d 0 (premiseOf z i) e r
         → Stands d (closureAt z destinations marks x) e r
     unfolding only
     closure-written t w = one (premiseOf z i) (sym closure-test ∙ ap (λ b. only b (premiseOf z i)) t) w (omega (arith, w .next))

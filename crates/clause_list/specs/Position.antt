@@ -1,21 +1,19 @@
 -- What stands at a position, by group, and that it is what stands there in the file.
-use mathlib.Core.Path.{_≡_, refl, ap, _∙_}
+use mathlib.Core.Path.{_≡_, refl, sym, ap, ap₂, _∙_}
 use mathlib.Core.Bool.{Bool, xor}
 use mathlib.Core.List.{List, [], _∷_}
-use Prim.Native.Nat.{ℕ, _+_, _-_, _*_, _/_, _%_, _^_, _<_}
-use lib.Dec.{eqb}
+use Prim.Native.Nat.{ℕ, _+_, _*_, _/_, _%_, _^_, _<_}
+use lib.Bits.{or-lt}
 use lib.IntN.{ℤ}
 use lib.ListN.{getD}
-use Rattle.meaning.specs.Automata.{EverySet}
+use Rattle.meaning.specs.BitSet.{has, set-of}
 use Rattle.meaning.specs.MarkSets.{set-of-has}
+use Rattle.automaton.specs.Acceptance.{every-set-has}
 use Rattle.encoding.specs.Variables.{Task}
-use Rattle.encoding.specs.Clauses.{_∪_, only, marks-of, totality, initial, successor, extension, closure, not-marks}
-use Rattle.encoding.specs.NamedFile.{exactly-one-full}
+use Rattle.encoding.specs.Clauses.{_∪_, only, marks-of, exactly-one, totality, initial, successor, extension, closure, not-marks}
 use Rattle.encoding.specs.Positions.{at₁, successor-at, at₃, at₄}
 use Rattle.decimal.specs.Wrote.{Wrote}
 use Rattle.clause_sizes.specs.declared.Sizes.{Sizes}
-use Rattle.clause_sizes.specs.Targets.{named}
-use Rattle.clause_sizes.specs.Sizes.{targetOf}
 use Rattle.clause_sizes.specs.Numbers.{numberOf}
 use Rattle.clause_list.specs.Tables.{tabled, taskOf, Tables}
 use Rattle.clause_list.specs.Groups.{totalityOf, initialOf, successorOf, extensionOf}
@@ -46,13 +44,14 @@ extensionAt z destinations marks x =
     let at = i .v .0 * 16 + i .l in
     extensionOf z i (getD destinations at 0) (getD marks at 0)
 
-abbrev pub oneFull : Sizes → ℕ → ℕ → Bool
-oneFull z candidate reference = xor (eqb candidate (2 ^ z .candidate .sets - 1)) (eqb reference (2 ^ z .reference .sets - 1))
+-- the two acceptances say different things of a set of candidate marks and of one of reference marks
+abbrev pub disagree : Sizes → ℕ → ℕ → Bool
+disagree z candidate reference = xor (has (z .candidate .acceptance) candidate) (has (z .reference .acceptance) reference)
 
 abbrev pub closureAt : Sizes → List ℕ → List ℕ → ℕ → List (List ℤ)
 closureAt z destinations marks x =
     let i = closureIndices z destinations x in
-    only (oneFull z (i .i ∪ i .k) (i .j ∪ getD marks (i .v .0 * 16 + i .l) 0)) (premiseOf z i)
+    only (disagree z (i .i ∪ i .k) (i .j ∪ getD marks (i .v .0 * 16 + i .l) 0)) (premiseOf z i)
 
 module _ (z : Sizes) (start : ℕ) (destinations marks : List ℕ) where
   abbrev T : Task
@@ -81,11 +80,21 @@ module _ (z : Sizes) (start : ℕ) (destinations marks : List ℕ) where
         let i = extensionIndices z x in
         ap (λ F. extensionOf z i (getD destinations (i .v .0 * 16 + i .l) 0) F ∷ []) (marks-is (i .v .0) (i .l) (w .v-lt) (w .l-lt))
 
+    -- "exactly one of "I∪K is all m" and "J∪F is all s" is true", by the two masks
+    pub exactly-one-is : (v l I J K : ℕ) → v < z .reference .states → l < z .letters → I < 2 ^ z .candidate .sets → J < 2 ^ z .reference .sets → K < 2 ^ z .candidate .sets
+        → exactly-one (taskOf z start destinations marks) v l I J K ≡ disagree z (I ∪ K) (J ∪ getD marks (v * 16 + l) 0)
+    unfolding exactly-one
+    exactly-one-is v l I J K hv hl hI hJ hK =
+        let m = z .candidate .sets in
+        let s = z .reference .sets in
+        let F = getD marks (v * 16 + l) 0 in
+        ap₂ xor (sym (ap (λ mask. has mask (I ∪ K)) (tables .candidate-every) ∙ every-set-has m (I ∪ K) (or-lt m I K hI hK)))
+        (ap (λ G. has (z .reference .acceptance) (set-of s (has (J ∪ G)))) (marks-is v l hv hl)
+        ∙ ap (has (z .reference .acceptance)) (set-of-has s (J ∪ F) (or-lt s J F hJ (tables .marks-lt v l hv hl))))
+
     pub at₄-is : (x : ℕ) → x < closures z → at₄ T (numberOf z) x ≡ closureAt z destinations marks x
-    unfolding at₄ closure not-marks EverySet
+    unfolding at₄ closure not-marks
     at₄-is x h =
         let w = closure-within z destinations marks tables x h in
         let i = closureIndices z destinations x in
-        ap (λ b. only b (premiseOf z i))
-        (exactly-one-full (tabled z start destinations marks) (named (targetOf z)) (λ S. refl) (i .v .0) (i .l) (i .i) (i .j) (i .k) (w .i-lt) (w .j-lt) (w .k-lt)
-        ∙ ap (λ F. oneFull z (i .i ∪ i .k) (i .j ∪ F)) (marks-is (i .v .0) (i .l) (w .v-lt) (w .l-lt)))
+        ap (λ b. only b (premiseOf z i)) (exactly-one-is (i .v .0) (i .l) (i .i) (i .j) (i .k) (w .v-lt) (w .l-lt) (w .i-lt) (w .j-lt) (w .k-lt))

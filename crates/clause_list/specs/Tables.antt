@@ -1,10 +1,10 @@
 -- DEFINITIONS: the reference as the functions here get it: its counts among the sizes, and its start and its two tables beside them.
-use Prim.Native.Nat.{ℕ, _+_, _*_, _^_, _<_}
+use mathlib.Core.Path.{_≡_}
+use Prim.Native.Nat.{ℕ, _+_, _-_, _*_, _^_, _<_}
 use mathlib.Core.List.{List}
 use lib.ListN.{getD}
 use Rattle.meaning.specs.Automata.{Aut}
-use Rattle.meaning.specs.BitSet.{has}
-use Rattle.meaning.specs.Tests.{all}
+use Rattle.meaning.specs.BitSet.{has, set-of}
 use Rattle.encoding.specs.Variables.{Task}
 use Rattle.encoding.specs.Named.{taskFor}
 use Rattle.clause_sizes.specs.declared.Sizes.{Sizes}
@@ -19,7 +19,7 @@ tabled z start destinations marks = record {
   start = start;
   step = λ u l. getD destinations (u * 16 + l) 0;
   marks = λ u l. has (getD marks (u * 16 + l) 0);
-  accept = all (z .reference .sets);
+  accept = λ S. has (z .reference .acceptance) (set-of (z .reference .sets) S);
 }
 
 abbrev pub taskOf : Sizes → ℕ → List ℕ → List ℕ → Task
@@ -29,8 +29,9 @@ taskOf z start destinations marks = taskFor (tabled z start destinations marks) 
 abbrev pub StepsWithin : Sizes → List ℕ → Type 0
 StepsWithin z destinations = (u l : ℕ) → u < z .reference .states → l < z .letters → getD destinations (u * 16 + l) 0 < z .reference .states
 
--- destinations are states, and marks are sets that there are
+-- destinations are states, and marks are sets that there are; for now the candidate's acceptance is that of every set
 pub record Tables (z : Sizes) (destinations marks : List ℕ) : Type 0 where
   pub fits : Fitting z
   pub step-lt : StepsWithin z destinations
   pub marks-lt : (u l : ℕ) → u < z .reference .states → l < z .letters → getD marks (u * 16 + l) 0 < 2 ^ z .reference .sets
+  pub candidate-every : z .candidate .acceptance ≡ 2 ^ (2 ^ z .candidate .sets - 1)

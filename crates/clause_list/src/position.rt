@@ -9,6 +9,7 @@ use crate::groups::totality;
 use automaton::Automaton;
 use automaton::states::CandidateState;
 use automaton::states::ReferenceState;
+use bits::sets::has;
 use clause_indices::Indices;
 use clause_indices::entry;
 use clause_indices::extent::Extent;
@@ -24,7 +25,7 @@ ghost use Rattle.clause_list.specs.Tables.{StepsWithin, taskOf, Tables};
 ghost use Rattle.clause_indices.specs.Indices.{extensions, closures, successors, ExtentOf, clauseRoom};
 ghost use Rattle.clause_list.specs.Digits.{closureIndices};
 ghost use Rattle.decimal.specs.Wrote.{Wrote};
-ghost use Rattle.clause_list.specs.Position.{Stands, successorAt, extensionAt, closureAt, oneFull};
+ghost use Rattle.clause_list.specs.Position.{Stands, successorAt, extensionAt, closureAt, disagree};
 
 // Writes the clause at position x, where there is one, and returns how many literals it has; else nothing, and 0.
 pub fn clause_at(
@@ -105,7 +106,7 @@ fn closure_at(
     let indices = closure_indices(z, destinations, x);
     let v = indices.v;
     let f = entry(marks, v, indices.l);
-    if !one_full(z, indices.i | indices.k, indices.j | f) {
+    if !disagree(z, indices.i | indices.k, indices.j | f) {
         return 0;
     }
     premise(z, indices, out)
@@ -134,14 +135,9 @@ fn closure_indices(z: Sizes, destinations: &[u8; Automaton::CELLS], x: usize) ->
     }
 }
 
-// "exactly one of "I∪K is all m" and "J∪F is all s""
-fn one_full(z: Sizes, candidate: usize, reference: usize) -> bool
-    requires { ⌜ Fitting z ⌝ }
-    ensures { λ r. ⌜ r ≡ oneFull z candidate reference ⌝ }
+// "exactly one of "I∪K is all m" and "J∪F is all s" is true": the two acceptances say different things of these sets of marks.
+fn disagree(z: Sizes, candidate: usize, reference: usize) -> bool
+    ensures { λ r. ⌜ r ≡ disagree z candidate reference ⌝ }
 {
-    let full = reference == z.reference.subsets - 1;
-    if candidate == z.candidate.subsets - 1 {
-        return !full;
-    }
-    full
+    has(z.candidate.acceptance, candidate) ^ has(z.reference.acceptance, reference)
 }

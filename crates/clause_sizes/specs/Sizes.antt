@@ -7,7 +7,7 @@ use Rattle.refusals.specs.declared.Code.{Code}
 use Rattle.refusals.specs.declared.Refusal.{Refusal}
 use Rattle.refusals.specs.declared.Refusal.the-variants.{Outside, Dimensions}
 use Rattle.refusals.specs.Refused.{row, codeOf}
-use Rattle.automaton.specs.Value.{Valid}
+use Rattle.automaton.specs.Value.{Valid, everySet}
 use Rattle.clause_sizes.specs.declared.Target.{Target}
 use Rattle.clause_sizes.specs.declared.Counts.{Counts}
 use Rattle.clause_sizes.specs.declared.Sizes.{Sizes}
@@ -21,22 +21,22 @@ pub data Refuses (a : Automaton) (τ : Target) : Refusal → Option Code → Typ
   outside : ¬ Valid a → Refuses a τ Outside (some (row 4 0 0))
   dimensions : Valid a → ¬ Dimensioned τ → Refuses a τ (Dimensions (τ .states) (τ .sets)) (some (row 8 (τ .states) (τ .sets)))
 
-abbrev pub countsOf : ℕ → ℕ → Counts
-countsOf states sets = record { states = states; sets = sets; subsets = 2 ^ sets }
+abbrev pub countsOf : ℕ → ℕ → ℕ → Counts
+countsOf states sets acceptance = record { states = states; sets = sets; subsets = 2 ^ sets; acceptance = acceptance }
 
-abbrev pub measured : Target → (states sets propositions : ℕ) → Sizes
-measured τ states sets propositions =
+abbrev pub measured : Target → (states sets acceptance propositions : ℕ) → Sizes
+measured τ states sets acceptance propositions =
     let steps = τ .states * τ .states * 2 ^ propositions in
     record {
-      candidate = countsOf (τ .states) (τ .sets);
-      reference = countsOf states sets;
+      candidate = countsOf (τ .states) (τ .sets) (everySet (τ .sets));
+      reference = countsOf states sets acceptance;
       letters = 2 ^ propositions;
       steps = steps;
       marks = steps + steps * τ .sets;
     }
 
 abbrev pub sizesOf : Automaton → Target → Sizes
-sizesOf a τ = measured τ (a .states) (a .sets) (a .propositions)
+sizesOf a τ = measured τ (a .states) (a .sets) (a .acceptance) (a .propositions)
 
 -- what was named for a file of these sizes
 abbrev pub targetOf : Sizes → Target

@@ -16,11 +16,13 @@ pub struct Target {
     pub sets: usize,
 }
 
-// Of the candidate or of the reference: its states, its acceptance sets, and how many sets of marks there are.
+// Of the candidate or of the reference: its states, its acceptance sets, how many sets of marks there are, and its acceptance as a
+// mask, bit M for the set of marks M.
 pub struct Counts {
     pub states: usize,
     pub sets: usize,
     pub subsets: usize,
+    pub acceptance: u16,
 }
 
 // `steps` is the number of the last step variable, `marks` that of the last mark variable.
@@ -51,6 +53,7 @@ pub fn measure(reference: Automaton, target: Target) -> Sized
         target,
         reference.states,
         reference.sets,
+        reference.acceptance,
         reference.propositions,
     );
     Sized::Of(z)
@@ -68,9 +71,15 @@ fn dimensioned(target: Target) -> bool
     target.sets <= Automaton::SETS
 }
 
-fn measured(target: Target, states: usize, sets: usize, propositions: usize) -> Sizes
+fn measured(
+    target: Target,
+    states: usize,
+    sets: usize,
+    acceptance: u16,
+    propositions: usize,
+) -> Sizes
     requires { ⌜ Dimensioned target × (sets ≤ 4) × (propositions ≤ 4) ⌝ }
-    ensures { λ r. ⌜ r ≡ measured target states sets propositions ⌝ }
+    ensures { λ r. ⌜ r ≡ measured target states sets acceptance propositions ⌝ }
 {
     let n = target.states;
     let m = target.sets;
@@ -81,11 +90,13 @@ fn measured(target: Target, states: usize, sets: usize, propositions: usize) -> 
             states: n,
             sets: m,
             subsets: power_of_two(m),
+            acceptance: Automaton::every_set(m),
         },
         reference: Counts {
             states,
             sets,
             subsets: power_of_two(sets),
+            acceptance,
         },
         letters,
         steps,

@@ -5,7 +5,6 @@ use mathlib.Core.List.{List}
 use Prim.Native.Nat.{ℕ, _/_, _%_, _<_}
 use native.Mathlib.Omega.{arith}
 use lib.ListN.{length, getD}
-use Rattle.meaning.specs.Tests.{all}
 use Rattle.meaning.specs.BitSet.{has}
 
 -- 1 where two answers differ
@@ -34,7 +33,7 @@ zero-unlike true false e = absurd (true≢false e)
 zero-unlike false true e = absurd (true≢false (sym e))
 zero-unlike false false e = refl
 
--- the entry of two sets of marks: that of an automaton with j sets times 16, and that of one with k sets
-pub record Judged (j k : ℕ) (hits : List ℕ) : Type 0 where
+-- the entry of two sets of marks: that of an automaton with the acceptance f times 16, and that of one with the acceptance g
+pub record Judged (f g : ℕ) (hits : List ℕ) : Type 0 where
   pub size : length hits ≡ 256
-  pub entries : (m : ℕ) → m < 256 → getD hits m 0 ≡ unlike (all j (has (m / 16))) (all k (has (m % 16)))
+  pub entries : (m : ℕ) → m < 256 → getD hits m 0 ≡ unlike (has f (m / 16)) (has g (m % 16))

@@ -31,7 +31,7 @@ module _ {a b : Automaton} (va : Valid a) (vb : Valid b) (same : a .propositions
       le-trans (mul-le-mul-left (suc (max (a .sets) (b .sets))) N-le) (le-trans (mul-le-mul-right 256 m) room)
 
   within : ShowsWithin (view a) (view b) M
-  within = shows-every (view-comparable va vb same) (view-every a) (view-every b)
+  within = shows-every (view-comparable va vb same) (view-every va) (view-every vb)
 
   -- "With N the product of the two state counts, prefix ≤ N - 1 and loop ≤ (larger set count + 1)N."
   pub word-bounds : {x y : List ℕ} → FirstWord (view a) (view b) x y

@@ -1,28 +1,28 @@
 -- The words that the search looks for are those on which the two automata differ.
 use mathlib.Core.Path.{_≡_, sym, ap, ap₂, _∙_}
 use mathlib.Core.Logic.{_≢_, _⊎_, inl, inr}
-use mathlib.Core.List.{List, []}
+use mathlib.Core.List.{List, [], _∷_}
 use mathlib.Core.Bool.{true≢false}
 use Prim.Native.Nat.{ℕ, _+_, _*_, _/_, _%_, _^_, _≤_, _<_}
 use native.Mathlib.Decide.{decLt}
 use native.Mathlib.Omega.{arith}
-use Rattle.meaning.specs.Tests.{all}
-use Rattle.meaning.specs.TestLaws.{all-same}
+use lib.Bits.{or-lt}
+use lib.Pow.{pow-pos}
 use Rattle.meaning.specs.BitSet.{has}
+use Rattle.meaning.specs.MarkSets.{set-of-same, set-of-has}
 use Rattle.meaning.specs.Automata.{Aut}
 use Rattle.meaning.specs.Agreement.{Comparable, Over}
 use Rattle.meaning.specs.Run.{after, seen, run-lt}
 use Rattle.meaning.specs.ClosedLoop.{verdict, Closed}
 use Rattle.meaning.specs.Decision.{CycleAgrees, Difference, classify, over-A, over-B}
 use Rattle.automaton.specs.declared.Automaton.{Automaton}
-use Rattle.automaton.specs.Value.{Valid, letters}
+use Rattle.automaton.specs.Value.{Valid, letters, destination, markSet}
 use Rattle.automaton.specs.View.{view}
 use Rattle.automaton.specs.ViewLaws.{view-comparable}
 use Rattle.bits.specs.Powers.{power-le}
-use Rattle.automaton.specs.Letters.{letters-le}
 use Rattle.compare_tables.specs.Tables.{entry, InRange, Below}
 use Rattle.compare_shortest.specs.Difference.{met, Shows}
-use Rattle.compare_shortest.specs.Met.{met-has, met-lt}
+use Rattle.compare_shortest.specs.Met.{met-has}
 use Rattle.compare.specs.Acceptance.{Judged, unlike, unlike-zero, zero-unlike}
 
 -- ---- the tables of a value in "The automaton"
@@ -47,16 +47,29 @@ in-range {a} v = record {
   start-lt = omega (arith, v .start-lt, v .states-le);
 }
 
--- the sets met from a state of the automaton
-met-below : {a : Automaton} → Valid a → (q : ℕ) (w : List ℕ) → q < a .states → Over (letters a) w → met (a .destinations) (a .marks) q w < 16
-met-below {a} v q w h o = met-lt (a .destinations) (a .marks) (in-range v .next-lt) (in-range v .marks-lt) (letters-le v) w q (omega (arith, v .states-le)) o
+module _ {a : Automaton} (v : Valid a) where
+  -- the sets met from a state of the automaton are its own
+  met-below : (w : List ℕ) (q : ℕ) → q < a .states → Over (letters a) w → met (a .destinations) (a .marks) q w < 2 ^ a .sets
+  met-below [] q h o = pow-pos (a .sets)
+  met-below (l ∷ w) q h o =
+      or-lt (a .sets) (markSet a q l) (met (a .destinations) (a .marks) (destination a q l) w) (v .marks-lt q l h (o .0))
+      (met-below w (destination a q l) (v .destination-lt q l h (o .0)) (o .1))
+
+  -- and what the acceptance says of them is the verdict
+  met-verdict : (x y : List ℕ) → after (view a) x < a .states → Over (letters a) y
+      → has (a .acceptance) (met (a .destinations) (a .marks) (after (view a) x) y) ≡ verdict (view a) x y
+  met-verdict x y h o =
+      let q = after (view a) x in
+      let K = met (a .destinations) (a .marks) q y in
+      ap (has (a .acceptance))
+      (sym (set-of-has (a .sets) K (met-below y q h o)) ∙ set-of-same (a .sets) (has K) (seen (view a) q y) (λ i g. met-has (a .destinations) (a .marks) i y q))
 
 -- ---- two values in "The automaton" over the same letters, and where their acceptances differ
 pub record Pair (a b : Automaton) (H : List ℕ) : Type 0 where
   pub valid-a : Valid a
   pub valid-b : Valid b
   pub same-propositions : a .propositions ≡ b .propositions
-  pub judged : Judged (a .sets) (b .sets) H
+  pub judged : Judged (a .acceptance) (b .acceptance) H
 
 -- the words that the search looks for
 abbrev pub Shown : Automaton → Automaton → List ℕ → List ℕ → List ℕ → Type 0
@@ -79,21 +92,27 @@ module _ {a b : Automaton} {H : List ℕ} (T : Pair a b H) where
     met-B : ℕ
     met-B = met (b .destinations) (b .marks) (after B x) y
 
+    state-A : after A x < a .states
+    state-A = run-lt (comparable .formed-A) (a .start) x (T .valid-a .start-lt) ox
+
+    state-B : after B x < b .states
+    state-B = run-lt (comparable .formed-B) (b .start) x (T .valid-b .start-lt) (over-B comparable x ox)
+
     lt-A : met-A < 16
     unfolding met-A
-    lt-A = met-below (T .valid-a) (after A x) y (run-lt (comparable .formed-A) (a .start) x (T .valid-a .start-lt) ox) oy
+    lt-A = omega (arith, met-below (T .valid-a) y (after A x) state-A oy, power-le (T .valid-a .sets-le))
 
     lt-B : met-B < 16
     unfolding met-B
-    lt-B = met-below (T .valid-b) (after B x) y (run-lt (comparable .formed-B) (b .start) x (T .valid-b .start-lt) (over-B comparable x ox)) (over-B comparable y oy)
+    lt-B = omega (arith, met-below (T .valid-b) y (after B x) state-B (over-B comparable y oy), power-le (T .valid-b .sets-le))
 
-    verdict-A : all (a .sets) (has met-A) ≡ verdict A x y
+    verdict-A : has (a .acceptance) met-A ≡ verdict A x y
     unfolding met-A
-    verdict-A = all-same (a .sets) (has (met (a .destinations) (a .marks) (after A x) y)) (seen A (after A x) y) (λ i h. met-has (a .destinations) (a .marks) i y (after A x))
+    verdict-A = met-verdict (T .valid-a) x y state-A oy
 
-    verdict-B : all (b .sets) (has met-B) ≡ verdict B x y
+    verdict-B : has (b .acceptance) met-B ≡ verdict B x y
     unfolding met-B
-    verdict-B = all-same (b .sets) (has (met (b .destinations) (b .marks) (after B x) y)) (seen B (after B x) y) (λ i h. met-has (b .destinations) (b .marks) i y (after B x))
+    verdict-B = met-verdict (T .valid-b) x y state-B (over-B comparable y oy)
 
     -- the entry for what both meet along y tells whether their verdicts differ
     hit-entry : entry H (met (a .destinations) (a .marks) (after A x) y) (met (b .destinations) (b .marks) (after B x) y) ≡ unlike (verdict A x y) (verdict B x y)
@@ -102,7 +121,7 @@ module _ {a b : Automaton} {H : List ℕ} (T : Pair a b H) where
         let ea : (met-A * 16 + met-B) / 16 ≡ met-A = omega (arith, lt-B) in
         let eb : (met-A * 16 + met-B) % 16 ≡ met-B = omega (arith, lt-B) in
         T .judged .entries (met-A * 16 + met-B) (omega (arith, lt-A, lt-B))
-        ∙ ap₂ unlike (ap (λ m. all (a .sets) (has m)) ea ∙ verdict-A) (ap (λ m. all (b .sets) (has m)) eb ∙ verdict-B)
+        ∙ ap₂ unlike (ap (has (a .acceptance)) ea ∙ verdict-A) (ap (has (b .acceptance)) eb ∙ verdict-B)
 
   pub shown-difference : (x y : List ℕ) → Shown a b H x y → Difference (view a) (view b) x y
   shown-difference x y S = go (classify comparable x (S .over-x) y (S .over-y))

@@ -61,7 +61,7 @@ fn difference(first: Automaton, second: Automaton, prefix: &mut [u8], cycle: &mu
     let second_next = second.destinations;
     let second_marks = second.marks;
     let mut hits = [0u8; HITS];
-    acceptance::judge_all(first.sets, second.sets, &mut hits);
+    acceptance::judge_all(first.acceptance, second.acceptance, &mut hits);
     compare_shortest::difference(
         &first_next,
         &first_marks,

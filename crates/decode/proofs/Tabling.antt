@@ -14,6 +14,7 @@ use Rattle.refusals.specs.declared.Code.{Code}
 use Rattle.refusals.specs.declared.Refusal.{Refusal}
 use Rattle.refusals.specs.declared.Refusal.the-variants.{NoStep}
 use Rattle.automaton.specs.Value.{Valid, letters}
+use Rattle.automaton.specs.Acceptance.{every-set-is, every-set-mask}
 use Rattle.automaton.specs.Letters.{letters-le}
 use Rattle.automaton.specs.Rows.{rows-same}
 use Rattle.encoding.specs.Clauses.{Assignment, destination, marks-of}
@@ -131,6 +132,7 @@ module _ {a : Automaton} {z : Sizes} (M : Measured a z) (named : List ℕ) where
             start = 0;
             propositions = a .propositions;
             sets = z .candidate .sets;
+            acceptance = (every-set-is (M .dimensioned .m-le) (ap (λ y. y .candidate .acceptance) (M .sized)) ∙ sym (every-set-mask (z .candidate .sets))) i;
             lengths = a .lengths;
             names = a .names;
             destinations = ed i;

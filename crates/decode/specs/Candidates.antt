@@ -2,12 +2,13 @@
 -- such candidate is decoded from one, as a value.
 use mathlib.Core.Path.{_≡_, refl, sym, ap, _∙_}
 use mathlib.Core.Logic.{_↔_}
-use Prim.Native.Nat.{_^_}
+use Prim.Native.Nat.{_-_, _^_}
 use Rattle.meaning.specs.Tests.{all}
+use Rattle.meaning.specs.Automata.{EverySet}
 use Rattle.automaton.specs.declared.Automaton.{Automaton}
 use Rattle.automaton.specs.Value.{Valid}
 use Rattle.automaton.specs.View.{view}
-use Rattle.automaton.specs.ViewLaws.{view-formed}
+use Rattle.automaton.specs.ViewLaws.{view-formed, view-every}
 use Rattle.automaton.specs.Equality.{Same, equal-values}
 use Rattle.encoding.specs.Clauses.{Assignment, Satisfies, Equivalent, SameTable}
 use Rattle.encoding.specs.Constraints.{constraints}
@@ -49,6 +50,7 @@ module _ {a : Automaton} {τ : Target} (v : Valid a) (z : Dimensioned τ) where
   -- COMPLETE
 
   equivalent : {C : Automaton} → Found a τ C → Equivalent (task a τ) (view C)
+  unfolding EverySet
   equivalent {C} f =
       let c = f .candidate in
       record {
@@ -58,7 +60,7 @@ module _ {a : Automaton} {τ : Target} (v : Valid a) (z : Dimensioned τ) where
           letters = ap (λ k. 2 ^ k) (c .propositions);
           sets = c .sets;
           start = c .start;
-          accept = λ S. ap (λ k. all k S) (c .sets);
+          accept = λ S. view-every (c .valid) S ∙ ap (λ k. all k S) (c .sets);
         };
         agrees = f .agrees;
       }
@@ -71,6 +73,7 @@ module _ {a : Automaton} {τ : Target} (v : Valid a) (z : Dimensioned τ) where
         start = sym (c .start);
         propositions = sym (c .propositions);
         sets = sym (c .sets);
+        acceptance = decoded-valid v z ν t .acceptance-is ∙ ap (λ k. 2 ^ (2 ^ k - 1)) (sym (c .sets)) ∙ sym (c .valid .acceptance-is);
         steps = λ q l hq hl. d .step q l hq hl ∙ s .step q l hq hl;
         marks = λ q l i hq hl hi. d .marks q l i hq hl hi ∙ s .marks q l i hq hl hi;
         names = λ i h. sym (c .names i h);

@@ -19,6 +19,7 @@ candidate a z destinations marks = record {
   start = 0;
   propositions = a .propositions;
   sets = z .candidate .sets;
+  acceptance = z .candidate .acceptance;
   lengths = a .lengths;
   names = a .names;
   destinations = destinations;

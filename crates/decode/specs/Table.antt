@@ -3,9 +3,10 @@
 use mathlib.Core.Path.{_≡_}
 use mathlib.Core.Logic.{_⊎_}
 use mathlib.Core.Bool.{true, _&&_, cond}
-use Prim.Native.Nat.{ℕ, _<_}
+use Prim.Native.Nat.{ℕ, _^_, _<_}
 use lib.Dec.{ltb}
 use Rattle.meaning.specs.Automata.{Aut}
+use Rattle.meaning.specs.BitSet.{has, set-of}
 use Rattle.automaton.specs.declared.Automaton.{Automaton}
 use Rattle.automaton.specs.Value.{rows, letters}
 use Rattle.encoding.specs.Variables.{step}
@@ -26,6 +27,7 @@ valueOf a C = record {
   start = C .start;
   propositions = a .propositions;
   sets = C .sets;
+  acceptance = set-of (2 ^ C .sets) (λ K. C .accept (has K));
   lengths = a .lengths;
   names = a .names;
   destinations = rows 16 (entry C (C .step));

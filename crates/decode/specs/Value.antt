@@ -4,13 +4,15 @@ use mathlib.Core.Path.{_≡_, refl, sym, ap, _∙_, subst}
 use mathlib.Core.Bool.{Bool}
 use Prim.Native.Nat.{ℕ, _≤_, _<_}
 use native.Mathlib.Omega.{arith}
-use Rattle.meaning.specs.Automata.{Aut}
+use Rattle.meaning.specs.Automata.{Aut, EverySet}
 use Rattle.meaning.specs.BitSet.{has}
 use Rattle.meaning.specs.MarkSets.{set-of-lt, has-set-of, set-of-same}
 use Rattle.automaton.specs.declared.Automaton.{Automaton}
 use Rattle.automaton.specs.Value.{Valid, letters, markSet}
 use Rattle.automaton.specs.Value.{destination as destinationOf}
 use Rattle.automaton.specs.View.{view}
+use Rattle.automaton.specs.ViewLaws.{view-every}
+use Rattle.automaton.specs.Acceptance.{every-set-mask}
 use Rattle.automaton.specs.Letters.{letters-le}
 use Rattle.automaton.specs.Rows.{rows-length, rows-at}
 use Rattle.encoding.specs.Variables.{step, mark}
@@ -55,6 +57,7 @@ module _ {a : Automaton} {τ : Target} (v : Valid a) (z : Dimensioned τ) (ν : 
     start-lt = z .n-some;
     propositions-le = v .propositions-le;
     sets-le = z .m-le;
+    acceptance-is = every-set-mask (τ .sets);
     destination-lt = λ q l hq hl. subst (λ p. p < τ .states) (sym (destination-is q l hq hl)) (steps-lead a τ ν q l (t q l hq hl));
     marks-lt = λ q l hq hl. omega (arith, marks-is q l hq hl, set-of-lt (τ .sets) (C .marks q l));
     name-some = v .name-some;
@@ -72,6 +75,7 @@ module _ {a : Automaton} {τ : Target} (v : Valid a) (z : Dimensioned τ) (ν : 
   }
 
   pub decoded-view : SameTable (view (decodedValue a τ ν)) (decodedTable a τ ν)
+  unfolding EverySet
   decoded-view = record {
     states = refl;
     letters = refl;
@@ -79,7 +83,7 @@ module _ {a : Automaton} {τ : Target} (v : Valid a) (z : Dimensioned τ) (ν : 
     start = refl;
     step = destination-is;
     marks = λ q l i hq hl hi. ap (λ s. has s i) (marks-is q l hq hl) ∙ has-set-of (τ .sets) (C .marks q l) i hi;
-    accept = λ S. refl;
+    accept = view-every decoded-valid;
   }
 
 -- ---- step and mark variables decide
@@ -113,6 +117,7 @@ module _ (a : Automaton) (τ : Target) (ν ξ : Assignment) (same : (k : ℕ) �
         start = 0;
         propositions = a .propositions;
         sets = τ .sets;
+        acceptance = decodedValue a τ ν .acceptance;
         lengths = a .lengths;
         names = a .names;
         destinations = d i;

@@ -139,6 +139,7 @@ fn table_of(
         start: 0,
         propositions: reference.propositions,
         sets: z.candidate.sets,
+        acceptance: z.candidate.acceptance,
         lengths,
         names,
         destinations,

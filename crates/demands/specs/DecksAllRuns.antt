@@ -46,6 +46,7 @@ all-runs = record {
   start = 0;
   propositions = 0;
   sets = 0;
+  acceptance = 1;
   lengths = replicate 4 0;
   names = replicate 64 0;
   destinations = replicate 256 0;

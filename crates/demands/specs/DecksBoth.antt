@@ -63,7 +63,7 @@ no-mark false true e f g = true≢false f
 no-mark false false e f g = true≢false (sym g)
 
 pub none-one-one : ¬ Satisfiable both-for-ever (target 1 1)
-unfolding CyclesAgree
+unfolding CyclesAgree set-of
 none-one-one (ν, s) =
     let C = decoded (task both-for-ever (target 1 1)) (numbers both-for-ever (target 1 1)) ν in
     let F = view-formed (accepted-valid _ both-read) in

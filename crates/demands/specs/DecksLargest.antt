@@ -6,16 +6,14 @@ use lib.ListN.{replicate}
 use Rattle.automaton.specs.declared.Automaton.{Automaton}
 use Rattle.automaton.specs.Tests.{fits, passes}
 use Rattle.automaton.specs.Value.{Valid}
-use Rattle.automaton.specs.View.{view}
-use Rattle.automaton.specs.Letters.{letters-le}
 use Rattle.automaton.specs.Meant.{fits-valid}
 use Rattle.clause_sizes.specs.declared.Target.{Target}
-use Rattle.clause_sizes.specs.Targets.{Dimensioned, last, named}
-use Rattle.clause_line.specs.LineLength.{variables-le}
+use Rattle.clause_sizes.specs.Targets.{Dimensioned, last}
+use Rattle.clause_sizes.specs.Limits.{sizes-fit, last-le}
 use Rattle.demands.specs.DecksWords.{target}
 
 pub at-most : {a : Automaton} {τ : Target} → Valid a → Dimensioned τ → last a τ ≤ 4_199_424
-at-most {a} {τ} v d = variables-le (view a) (named τ) (d .n-le) (d .m-le) (v .states-le) (letters-le v) (v .sets-le)
+at-most v d = last-le (sizes-fit v d)
 
 pub met : (a : Automaton) → a .states ≡ 16 → a .propositions ≡ 4 → a .sets ≡ 4 → last a (target 8 4) ≡ 4_199_424
 met a r k s = rw (r, k, s)
@@ -26,6 +24,7 @@ largest = record {
   start = 0;
   propositions = 4;
   sets = 4;
+  acceptance = 32768;
   lengths = replicate 4 1;
   names = (97 ∷ replicate 15 0) ++ ((98 ∷ replicate 15 0) ++ ((99 ∷ replicate 15 0) ++ (100 ∷ replicate 15 0)));
   destinations = replicate 256 0;

@@ -1,18 +1,13 @@
 -- THE FILE THAT THE CALLER NAMES: the theorem, the numbers and the counts for it.
-use mathlib.Core.Path.{_≡_, refl, ap₂, _∙_}
-use mathlib.Core.Bool.{xor}
+use mathlib.Core.Path.{_≡_, refl, _∙_}
 use Prim.Native.Nat.{ℕ, _+_, _-_, _*_, _^_, _≤_, _<_}
 use native.Mathlib.Omega.{arith}
 use lib.Arith.{digits-lt}
-use lib.Bits.{or-lt}
-use lib.Dec.{eqb}
 use lib.ListN.{length}
-use Rattle.meaning.specs.Automata.{Aut, WellFormed, EverySet}
-use Rattle.meaning.specs.BitSet.{has}
+use Rattle.meaning.specs.Automata.{Aut, WellFormed}
 use Rattle.meaning.specs.TestLaws.{all-same}
-use Rattle.meaning.specs.MarkSets.{set-of-lt, all-has}
 use Rattle.encoding.specs.Variables.{Task, Var, step, mark, path, Present}
-use Rattle.encoding.specs.Clauses.{_∪_, marks-of, exactly-one, group₄}
+use Rattle.encoding.specs.Clauses.{group₄}
 use Rattle.encoding.specs.Named.{Named, KindFor, taskFor, marksFor, pathsFor, numberFor, tableVariablesFor, variablesFor, fileFor}
 use Rattle.encoding.specs.WellPosed.{WellPosed}
 use Rattle.encoding.specs.Numbering.{Numbering, MarkLaws, PathLaws, numbering, variable, representative, variable-number}
@@ -83,11 +78,3 @@ module _ (R : Aut) (t : Named) where
       ≡ n * R .letters + (1 + n * n * R .states * R .letters) + n * n * n * R .states * R .states * R .letters * 2 ^ m * 2 ^ R .sets * 2 ^ m
       + length (group₄ (taskFor R t) (numberFor R t))
   named-length = length-file T (numberFor R t) (λ u v. refl)
-
-  -- "exactly one of "I∪K is all m" and "J∪F is all s" is true"
-  pub exactly-one-full : EverySet R → (v l I J K : ℕ) → I < 2 ^ m → J < 2 ^ R .sets → K < 2 ^ m
-      → exactly-one (taskFor R t) v l I J K ≡ xor (eqb (I ∪ K) (2 ^ m - 1)) (eqb (J ∪ marks-of R v l) (2 ^ R .sets - 1))
-  unfolding exactly-one EverySet
-  exactly-one-full every v l I J K hI hJ hK =
-      ap₂ xor (all-has m (I ∪ K) (or-lt m I K hI hK))
-      (every (has (J ∪ marks-of R v l)) ∙ all-has (R .sets) (J ∪ marks-of R v l) (or-lt (R .sets) J (marks-of R v l) hJ (set-of-lt (R .sets) (R .marks v l))))

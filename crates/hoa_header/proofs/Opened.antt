@@ -17,7 +17,7 @@ use Rattle.automaton.specs.declared.Automaton.{Automaton}
 use Rattle.refusals.specs.declared.Refusal.{Refusal}
 use Rattle.refusals.specs.declared.Refusal.the-variants.{Form, Undeclared}
 use Rattle.refusals.specs.declared.Refusal.the-variants as Because
-use Rattle.automaton.specs.Value.{empty}
+use Rattle.automaton.specs.Value.{empty, everySet}
 use Rattle.automaton.specs.Bytes.{bytes}
 use Rattle.hoa_text.specs.Basics.{option, isSome, begins}
 use Rattle.hoa_text.specs.Tokens.{item, Stream, stands, left}
@@ -47,13 +47,14 @@ zeros : (n : ℕ) → replicate {A = ℕ} n 0 ≡ each n (λ i. 0 ∷ [])
 zeros zero = refl
 zeros (suc n) = ap (λ k. replicate {A = ℕ} k 0) (sym (add-one n)) ∙ sym (replicate-append-replicate n 1 0) ∙ ap (λ l. l ++ (0 ∷ [])) (zeros n)
 
-pub unfilled : (c : Code.Items) (a : Automaton) → a ≡ empty
-    → Unfilled c (record { states = c .states; start = c .start; propositions = c .names .count; sets = c .sets; lengths = c .names .lengths; names = c .names .bytes; destinations = a .destinations; marks = a .marks })
-unfilled c a e g h = λ i. record {
+pub unfilled : (c : Code.Items) (a : Automaton) (mask : ℕ) → a ≡ empty → mask ≡ everySet (c .sets)
+    → Unfilled c (record { states = c .states; start = c .start; propositions = c .names .count; sets = c .sets; acceptance = mask; lengths = c .names .lengths; names = c .names .bytes; destinations = a .destinations; marks = a .marks })
+unfilled c a mask e m g h = λ i. record {
   states = h .states i;
   start = h .start i;
   propositions = h .names i .count;
   sets = h .sets i;
+  acceptance = (m ∙ ap everySet (h .sets)) i;
   lengths = h .names i .lengths;
   names = h .names i .bytes;
   destinations = (ap (λ a. a .destinations) e ∙ zeros 256) i;

@@ -137,6 +137,7 @@ pub made-is : (a : Automaton) (u : Code.Table) (h : Header) (t : Table) → Open
       start = a .start;
       propositions = a .propositions;
       sets = a .sets;
+      acceptance = a .acceptance;
       lengths = a .lengths;
       names = a .names;
       destinations = u .destinations;
@@ -147,6 +148,7 @@ made-is a u h t o g = λ i. record {
   start = (o i) .start;
   propositions = (o i) .propositions;
   sets = (o i) .sets;
+  acceptance = (o i) .acceptance;
   lengths = (o i) .lengths;
   names = (o i) .names;
   destinations = (g .destinations) i;

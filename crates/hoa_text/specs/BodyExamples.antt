@@ -31,6 +31,7 @@ table d m e n = record {
   start = 0;
   propositions = 1;
   sets = 2;
+  acceptance = 8;
   lengths = 1 ∷ replicate 3 0;
   names = 97 ∷ replicate 63 0;
   destinations = d ++ (replicate 14 0 ++ (e ++ replicate 238 0));

@@ -13,21 +13,41 @@ returns : tie.Need-returns
 unfolding fits
 returns c = rw (sym (c .before .counts-fit .ensures) ∙ not-true _ (c .if1 .taken))
 
-tables-fit-requires : tie.Need-tables-fit-requires
-tables-fit-requires c κs = search needs
+acceptance-fits-requires : tie.Need-acceptance-fits-requires
+acceptance-fits-requires c κs = search needs
 
 returns-2 : tie.Need-returns-2
 unfolding fits
-returns-2 c = rw (sym (c .before .before .before .counts-fit .ensures) ∙ not-false _ (c .before .before .if1 .left), sym (c .before .tables-fit .ensures) ∙ not-true _ (c .if2 .taken))
+returns-2 c = rw (sym (c .before .before .before .counts-fit .ensures) ∙ not-false _ (c .before .before .if1 .left), sym (c .before .acceptance-fits .ensures) ∙ not-true _ (c .if2 .taken))
+
+tables-fit-requires : tie.Need-tables-fit-requires
+tables-fit-requires c κs = search needs
+
+returns-3 : tie.Need-returns-3
+unfolding fits
+returns-3 c =
+    let e = c .before .before in
+    rw (sym (e .before .before .before .counts-fit .ensures) ∙ not-false _ (e .before .before .if1 .left), sym (e .before .acceptance-fits .ensures) ∙ not-false _ (e .if2 .left), sym (c .before .tables-fit .ensures) ∙ not-true _ (c .if3 .taken))
 
 named-requires : tie.Need-named-requires
 named-requires c κs = search needs
 
-returns-3 : tie.Need-returns-3
+returns-4 : tie.Need-returns-4
 unfolding fits
-returns-3 c = rw (sym (c .before .before .before .before .before .before .counts-fit .ensures) ∙ not-false _ (c .before .before .before .before .before .if1 .left), sym (c .before .before .before .before .tables-fit .ensures) ∙ not-false _ (c .before .before .before .if2 .left)) (c .named .ensures)
+returns-4 c =
+    let e = c .before .before .before in
+    let g = e .before .before in
+    rw (sym (g .before .before .before .counts-fit .ensures) ∙ not-false _ (g .before .before .if1 .left), sym (g .before .acceptance-fits .ensures) ∙ not-false _ (g .if2 .left), sym (e .before .tables-fit .ensures) ∙ not-false _ (e .if3 .left)) (c .named .ensures)
 
 pub fits-spec : {M : Type 1} → statement M
 fits-spec =
     tie.close
-    (tie.spec counts-fit-requires returns tables-fit-requires returns-2 named-requires returns-3)
+    (tie.spec
+    counts-fit-requires
+    returns
+    acceptance-fits-requires
+    returns-2
+    tables-fit-requires
+    returns-3
+    named-requires
+    returns-4)

@@ -21,13 +21,13 @@ closure-indices-requires c κs = (c .pre .0 .fits, c .pre .1 .0)
 entry-requires : tie.Need-entry-requires
 entry-requires c κs = search needs
 
-one-full-requires : tie.Need-one-full-requires
-one-full-requires c κs = c .before .before .before .before .before .pre .0 .fits
+disagree-requires : tie.Need-disagree-requires
+disagree-requires c κs = search needs
 
 returns : tie.Need-returns
 returns c = let s = c .before .before .before .before .before .before .before in
     let i = c .before .before .before .before .before .before in
-    closure-none (s .args .z) (s .args .destinations .now) (s .args .marks .now) _ (i .closure-indices .ensures) (entry-is (indices-lt (s .pre .0 .fits) (within i)) (c .before .before .before .before .entry .ensures)) (sym (c .before .one-full .ensures) ∙ not-true _ (c .if1 .taken))
+    closure-none (s .args .z) (s .args .destinations .now) (s .args .marks .now) _ (i .closure-indices .ensures) (entry-is (indices-lt (s .pre .0 .fits) (within i)) (c .before .before .before .before .entry .ensures)) (sym (c .before .disagree .ensures) ∙ not-true _ (c .if1 .taken))
 
 premise-requires : tie.Need-premise-requires
 premise-requires c κs = search needs
@@ -38,9 +38,9 @@ same-length c = let s = c .before .before .before .before .before .before .befor
 returns-2 : tie.Need-returns-2
 returns-2 c = let s = c .before .before .before .before .before .before .before .before .before .before in
     let i = c .before .before .before .before .before .before .before .before .before in
-    closure-written (s .args .z) (s .args .destinations .now) (s .args .marks .now) _ (i .closure-indices .ensures) (entry-is (indices-lt (s .pre .0 .fits) (within i)) (c .before .before .before .before .before .before .before .entry .ensures)) (sym (c .before .before .before .before .one-full .ensures) ∙ not-false _ (c .before .before .before .if1 .left)) (c .before .premise .ensures .there (s .pre .0 .fits) (within i) (s .pre .1 .1))
+    closure-written (s .args .z) (s .args .destinations .now) (s .args .marks .now) _ (i .closure-indices .ensures) (entry-is (indices-lt (s .pre .0 .fits) (within i)) (c .before .before .before .before .before .before .before .entry .ensures)) (sym (c .before .before .before .before .disagree .ensures) ∙ not-false _ (c .before .before .before .if1 .left)) (c .before .premise .ensures .there (s .pre .0 .fits) (within i) (s .pre .1 .1))
 
 pub closure-at-spec : {M : Type 1} → statement M
 closure-at-spec =
     tie.close
-    (tie.spec closure-indices-requires entry-requires one-full-requires returns premise-requires same-length returns-2)
+    (tie.spec closure-indices-requires entry-requires disagree-requires returns premise-requires same-length returns-2)

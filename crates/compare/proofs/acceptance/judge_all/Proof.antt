@@ -2,7 +2,6 @@
 use mathlib.Core.Path.{sym, ap₂, _∙_}
 use Prim.Native.Nat.{_-_, _/_, _%_}
 use native.Mathlib.Omega.{arith}
-use Rattle.meaning.specs.Tests.{all}
 use Rattle.meaning.specs.BitSet.{has}
 use Rattle.compare.specs.Acceptance.{unlike}
 use Rattle.compare.proofs.Laws.{Filled, filled-none, filled-more}
@@ -11,13 +10,13 @@ use Rattle.compare.proofs.acceptance.judge_all.Statement.{statement}
 use Rattle.compare.proofs.acceptance.judge_all.Tie as tie
 
 abbrev Inv-loop : tie.InvT-loop
-Inv-loop first-sets second-sets hits₀ m₀ hits m = Filled (λ k. unlike (all first-sets (has (k / 16))) (all second-sets (has (k % 16)))) 256 hits m
+Inv-loop first second hits₀ m₀ hits m = Filled (λ k. unlike (has first (k / 16)) (has second (k % 16))) 256 hits m
 
 abbrev μ-loop : tie.MeasureT-loop
-μ-loop first-sets second-sets hits₀ m₀ hits m = 256 - m
+μ-loop first second hits₀ m₀ hits m = 256 - m
 
 loop-holds : tie.Need-loop-holds Inv-loop μ-loop
-loop-holds c = filled-none _ 256 _ (c .before .pre .2)
+loop-holds c = filled-none _ 256 _ (c .before .pre)
 
 accepts-requires : tie.Need-accepts-requires Inv-loop μ-loop
 accepts-requires c κs = search needs
@@ -41,7 +40,7 @@ loop-again : tie.Need-loop-again Inv-loop μ-loop
 loop-again c = filled-more _ 256 (c .before .before .before .before .loop .hits) _ _ (c .before .before .before .before .loop .inv) (c .before .before .before .loop-test .taken) (c .judge .ensures ∙ ap₂ unlike (c .before .before .accepts .ensures) (c .before .accepts2 .ensures))
 
 same-length : tie.Need-same-length Inv-loop μ-loop
-same-length c = c .before .loop .inv .size ∙ sym (c .before .before .before .pre .2)
+same-length c = c .before .loop .inv .size ∙ sym (c .before .before .before .pre)
 
 returns : tie.Need-returns Inv-loop μ-loop
 returns c = record { size = c .before .loop .inv .size; entries = λ m h. c .before .loop .inv .entries m (omega (arith, c .loop-test .left)) }
