@@ -14,8 +14,8 @@ use std::{env, fs, process};
 // A file of definitions, by its crate and its module below specs/.
 pub type Room = (String, String);
 
-// Statements stand at the head of these files of `demands`, and their proofs below.
-const STATEMENTS: [&str; 4] = ["Demand1", "Demand2", "Demand3", "Decks"];
+// Statements stand at the head of these files, and their proofs below.
+const STATEMENTS: [[&str; 2]; 4] = [["demands", "Demand1"], ["demands", "Demand2"], ["demands", "Demand3"], ["decks", "Decks"]];
 
 // What is said over lists of calls of the search stands beside them. The condition of document 02's E3 has a law, and no function writes it yet.
 const CLAIMED: [[&str; 3]; 2] = [["search", "Calls", "Searches"], ["hoa_text", "ConditionText", "conditionText"]];
@@ -103,7 +103,7 @@ fn named(claims: &str, krate: &str, module: &str) -> bool {
 }
 
 fn is_statement(room: &Room, spec: &Spec, item: &str) -> bool {
-    room.0 == "demands" && STATEMENTS.contains(&room.1.as_str()) && spec.in_head(item)
+    STATEMENTS.contains(&[room.0.as_str(), room.1.as_str()]) && spec.in_head(item)
 }
 
 // The names in the public contracts, and the statements of the demands.
@@ -115,8 +115,8 @@ fn roots(root: &Path, specs: &BTreeMap<Room, Spec>) -> Vec<(Room, String, String
     for [krate, module, name] in CLAIMED.map(|words| words.map(str::to_string)) {
         found.push(((krate, module), name, "a claim".to_string()));
     }
-    for module in STATEMENTS {
-        let room = ("demands".to_string(), module.to_string());
+    for [krate, module] in STATEMENTS {
+        let room = (krate.to_string(), module.to_string());
         if let Some(spec) = specs.get(&room) {
             for item in spec.head() {
                 found.push((room.clone(), item, "the demand".to_string()));

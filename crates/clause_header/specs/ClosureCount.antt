@@ -26,7 +26,7 @@ module _ (z : Sizes) where
   abbrev pub yesPairs : ℕ
   yesPairs = passing M M (λ I K. has (z .candidate .acceptance) (I ∪ K))
 
-  -- the pairs of which the two acceptances say different things, where the union of J and F is given, and the candidate's says yes for so many of them
+  -- the pairs of which the two acceptances say different things, where the union of J and F is given, and the number of pairs that the candidate's says yes for
   abbrev pub pairsFor : ℕ → ℕ → ℕ
   pairsFor accepted union = cond (has (z .reference .acceptance) union) (M * M - accepted) accepted
 

@@ -20,7 +20,7 @@ use Rattle.clause_sizes.specs.Targets.{task, numbers}
 abbrev pub entry : Aut → (ℕ → ℕ → ℕ) → ℕ → ℕ → ℕ
 entry C f q l = cond (ltb q (C .states) && ltb l (C .letters)) (f q l) 0
 
--- with the propositions of the reference: "proposition names are the reference's"
+-- with the propositions of the reference: "proposition names are the reference's"; bit K of the acceptance is what C says of the set of marks K
 abbrev pub valueOf : Automaton → Aut → Automaton
 valueOf a C = record {
   states = C .states;

@@ -13,11 +13,3 @@ pub mod SearchOnce
 pub mod Demand1
 pub mod Demand2
 pub mod Demand3
-pub mod DecksWords
-pub mod DecksTested
-pub mod DecksFirst
-pub mod DecksSolver
-pub mod DecksAllRuns
-pub mod DecksBoth
-pub mod DecksLargest
-pub mod Decks

@@ -21,8 +21,8 @@ use Rattle.hoa_text.specs.Body.{bodyRead}
 use Rattle.hoa_text.specs.Reading.{read}
 use Rattle.hoa_text.specs.Accepted.{accepted-valid}
 use Rattle.hoa_text.specs.Examples.{both-for-ever}
-use Rattle.demands.specs.DecksWords.{target, Counts, Satisfiable}
-use Rattle.demands.specs.DecksTested.{tested-satisfies}
+use Rattle.decks.specs.Words.{target, Counts, Satisfiable}
+use Rattle.decks.specs.Tested.{tested-satisfies}
 
 pub both-read : read
     (bytes "HOA: v1 States: 1 Start: 0 AP: 2 \"a\" \"b\" Acceptance: 2 Inf(0)&Inf(1) "

@@ -17,11 +17,11 @@ use Rattle.hoa_text.specs.Header.{itemRead}
 use Rattle.hoa_text.specs.Body.{bodyRead}
 use Rattle.hoa_text.specs.Reading.{read}
 use Rattle.hoa_text.specs.Examples.{one-state, both-for-ever}
-use Rattle.demands.specs.DecksWords.{target, ReadAs, HoaTextRefused, Counts, Satisfiable, Prints, Stating, DecodedAs, DecoderRefuses, SolverTextRefused}
-use Rattle.demands.specs.DecksFirst.{first-read, first-prints, first-none}
-use Rattle.demands.specs.DecksAllRuns.{all-runs, all-runs-read, all-runs-counts, all-runs-some, states-satisfying, one-two-decoded, states-no-step, minus-one-decoded, one-three-refused, one-one-refused}
-use Rattle.demands.specs.DecksBoth.{both-read, counts-one-one, none-one-one, counts-two-one, some-two-one, counts-one-two, some-one-two}
-use Rattle.demands.specs.DecksLargest.{at-most, met, largest, largest-valid}
+use Rattle.decks.specs.Words.{target, ReadAs, HoaTextRefused, Counts, Satisfiable, Prints, Stating, DecodedAs, DecoderRefuses, SolverTextRefused}
+use Rattle.decks.specs.First.{first-read, first-prints, first-none}
+use Rattle.decks.specs.AllRuns.{all-runs, all-runs-read, all-runs-counts, all-runs-some, states-satisfying, one-two-decoded, states-no-step, minus-one-decoded, one-three-refused, one-one-refused}
+use Rattle.decks.specs.Both.{both-read, counts-one-one, none-one-one, counts-two-one, some-two-one, counts-one-two, some-one-two}
+use Rattle.decks.specs.Largest.{at-most, met, largest, largest-valid}
 
 -- ---- the statement
 

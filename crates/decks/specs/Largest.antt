@@ -10,7 +10,7 @@ use Rattle.automaton.specs.Meant.{fits-valid}
 use Rattle.clause_sizes.specs.declared.Target.{Target}
 use Rattle.clause_sizes.specs.Targets.{Dimensioned, last}
 use Rattle.clause_sizes.specs.Limits.{sizes-fit, last-le}
-use Rattle.demands.specs.DecksWords.{target}
+use Rattle.decks.specs.Words.{target}
 
 pub at-most : {a : Automaton} {τ : Target} → Valid a → Dimensioned τ → last a τ ≤ 4_199_424
 at-most v d = last-le (sizes-fit v d)

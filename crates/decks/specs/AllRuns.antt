@@ -35,10 +35,10 @@ use Rattle.hoa_text.specs.Header.{itemRead}
 use Rattle.hoa_text.specs.Body.{bodyRead}
 use Rattle.hoa_text.specs.Reading.{read}
 use Rattle.hoa_text.specs.Accepted.{accepted-valid}
-use Rattle.demands.specs.DecksWords as words
-use Rattle.demands.specs.DecksWords.{target, Counts, Stating, DecodedAs, DecoderRefuses, SolverTextRefused}
-use Rattle.demands.specs.DecksSolver.{by-assignment, text-refused, stating}
-use Rattle.demands.specs.DecksTested.{tested-satisfies}
+use Rattle.decks.specs.Words as words
+use Rattle.decks.specs.Words.{target, Counts, Stating, DecodedAs, DecoderRefuses, SolverTextRefused}
+use Rattle.decks.specs.Solver.{by-assignment, text-refused, stating}
+use Rattle.decks.specs.Tested.{tested-satisfies}
 
 abbrev pub all-runs : Automaton
 all-runs = record {

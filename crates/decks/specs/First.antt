@@ -29,7 +29,7 @@ use Rattle.hoa_text.specs.Reading.{read}
 use Rattle.hoa_text.specs.Accepted.{accepted-valid}
 use Rattle.hoa_text.specs.Examples.{one-state}
 use Rattle.console_report.specs.Lines.{headerLine}
-use Rattle.demands.specs.DecksWords.{target, Satisfiable, headerText, Prints}
+use Rattle.decks.specs.Words.{target, Satisfiable, headerText, Prints}
 
 -- ---- what the calls write is the text of the file
 module _ {a : Automaton} {τ : Target} (v : Valid a) (d : Dimensioned τ) where

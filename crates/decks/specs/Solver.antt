@@ -22,7 +22,7 @@ use Rattle.solver_agreement.specs.Table.{table}
 use Rattle.solver_agreement.specs.Pieces.{reads-range, Tells, whole-text}
 use Rattle.decode.specs.declared.Decoded.{Decoded}
 use Rattle.decode.specs.Answers.{whole, Decodes, Admitted, ByAssignment}
-use Rattle.demands.specs.DecksWords.{HasRead, SolverTextRefused}
+use Rattle.decks.specs.Words.{HasRead, SolverTextRefused}
 
 module _ {a : Automaton} {τ : Target} (v : Valid a) (z : Dimensioned τ) {text : List ℕ} {q : Reader} (h : HasRead a τ text q) where
   in-range : InRange q
