@@ -4,6 +4,8 @@
 #![allow(dead_code)]
 #[path = "../../tests/second/automaton.rs"]
 mod automaton;
+#[path = "../../tests/second/formula.rs"]
+mod formula;
 #[path = "../../tests/second/hoa.rs"]
 mod hoa;
 
@@ -11,12 +13,14 @@ use automaton::Automaton;
 
 const PAIRS: usize = 256;
 const NODES: usize = PAIRS * 256;
+/// The longest loop that a comparison may have to give.
+const LOOP: usize = 2304;
 
 struct Product {
     letters: usize,
     /// By pair and letter: the next pair, and the marks of both, the first's in the upper four bits.
     next: Vec<(usize, usize)>,
-    /// By the marks of both: whether exactly one of the two has all its sets.
+    /// By the marks of both: whether exactly one of the two accepts them.
     hits: [bool; 256],
 }
 
@@ -31,8 +35,7 @@ fn product(a: &Automaton, b: &Automaton) -> Product {
             }
         }
     }
-    let full = |marks: usize, all: u8| marks & all as usize == all as usize;
-    let hits = std::array::from_fn(|m| full(m >> 4, a.all_marks()) != full(m & 15, b.all_marks()));
+    let hits = std::array::from_fn(|m| a.takes((m >> 4) as u8) != b.takes((m & 15) as u8));
     Product { letters, next, hits }
 }
 
@@ -95,7 +98,7 @@ fn main() {
     let mut queue = Vec::with_capacity(NODES);
     let mut best: Option<(usize, usize)> = None;
     for (pair, distance) in reached(&product, a.start * 16 + b.start) {
-        let bound = best.map_or(1280, |(p, l)| (p + l).saturating_sub(distance + 1));
+        let bound = best.map_or(LOOP, |(p, l)| (p + l).saturating_sub(distance + 1));
         if let Some(length) = loop_length(&product, pair, bound, &mut seen, &mut queue) {
             best = Some((distance, length));
         }

@@ -21,6 +21,8 @@ pub struct Automaton {
     pub start: usize,
     pub propositions: usize,
     pub sets: usize,
+    /// Bit M: whether a run is accepting that meets just the sets M infinitely often.
+    pub acceptance: u16,
     pub names: [[u8; NAME]; PROPOSITIONS],
     pub lengths: [usize; PROPOSITIONS],
     pub destinations: [[u8; LETTERS]; STATES],
@@ -64,6 +66,16 @@ struct Reader<'a> {
     /// The offset behind `next`.
     at: usize,
 }
+
+/// What a formula is about.
+#[derive(Clone, Copy)]
+enum Leaves {
+    Propositions,
+    Sets,
+}
+
+/// The letters that have a proposition, and the sets of marks that have a set.
+const HAVING: [u16; 4] = [0xaaaa, 0xcccc, 0xf0f0, 0xff00];
 
 fn in_word(byte: u8) -> bool {
     byte.is_ascii_alphanumeric() || byte == b'_' || byte == b'-'
@@ -254,32 +266,9 @@ impl<'a> Reader<'a> {
 
     fn acceptance(&mut self, a: &mut Automaton) -> Answer<()> {
         a.sets = self.below(SETS + 1, 2)?;
-        if a.sets == 0 {
-            self.due(Kind::Word(b"t"))?;
-        }
-        for set in 0..a.sets {
-            if set > 0 {
-                self.due(Kind::Sign(b'&'))?;
-            }
-            for kind in [Kind::Word(b"Inf"), Kind::Sign(b'('), Kind::Number(set), Kind::Sign(b')')] {
-                self.due(kind)?;
-            }
-        }
-        match self.next.kind {
-            Kind::Item(_) | Kind::Body => Ok(()),
-            Kind::Cut | Kind::Broken => Err(self.form(self.next)),
-            _ => Err(Refusal(3, self.next.at, 0)),
-        }
-    }
-
-    /// A token of the condition.
-    fn due(&mut self, kind: Kind) -> Answer<()> {
-        let token = self.take();
-        match token.kind {
-            Kind::Cut | Kind::Broken => Err(self.form(token)),
-            found if found == kind => Ok(()),
-            _ => Err(Refusal(3, token.at, 0)),
-        }
+        let all = ((1u32 << (1 << a.sets)) - 1) as u16;
+        a.acceptance = self.any(Leaves::Sets, a.sets, 0)? & all;
+        Ok(())
     }
 
     // The body
@@ -308,7 +297,7 @@ impl<'a> Reader<'a> {
                 }
                 (Kind::Sign(b'['), Some(current)) if current.listed == 0 => {
                     current.labelled = true;
-                    let set = self.any(a.propositions, 0)? & letters;
+                    let set = self.any(Leaves::Propositions, a.propositions, 0)? & letters;
                     self.expect(Kind::Sign(b']'))?;
                     let destination = self.below(a.states, 4)?;
                     self.edge(a, current, set, destination, &mut given)?;
@@ -354,40 +343,51 @@ impl<'a> Reader<'a> {
         Ok(marks)
     }
 
-    // Labels give the set of letters that satisfy them, bit l for the letter l.
+    // Labels give the set of letters that satisfy them, bit l for the letter l; conditions likewise the sets of marks.
 
-    fn any(&mut self, k: usize, depth: usize) -> Answer<u16> {
-        let mut letters = self.all(k, depth)?;
+    fn any(&mut self, leaves: Leaves, k: usize, depth: usize) -> Answer<u16> {
+        let mut found = self.all(leaves, k, depth)?;
         while self.take_sign(b'|') {
-            letters |= self.all(k, depth)?;
+            found |= self.all(leaves, k, depth)?;
         }
-        Ok(letters)
+        Ok(found)
     }
 
-    fn all(&mut self, k: usize, depth: usize) -> Answer<u16> {
-        let mut letters = self.one(k, depth)?;
+    fn all(&mut self, leaves: Leaves, k: usize, depth: usize) -> Answer<u16> {
+        let mut found = self.one(leaves, k, depth)?;
         while self.take_sign(b'&') {
-            letters &= self.one(k, depth)?;
+            found &= self.one(leaves, k, depth)?;
         }
-        Ok(letters)
+        Ok(found)
     }
 
-    fn one(&mut self, k: usize, depth: usize) -> Answer<u16> {
+    fn one(&mut self, leaves: Leaves, k: usize, depth: usize) -> Answer<u16> {
         let token = self.take();
-        match token.kind {
-            Kind::Sign(b'!' | b'(') if depth == NESTING => Err(Refusal(2, token.at, 0)),
-            Kind::Sign(b'!') => Ok(!self.one(k, depth + 1)?),
-            Kind::Sign(b'(') => {
-                let letters = self.any(k, depth + 1)?;
+        match (token.kind, leaves) {
+            (Kind::Sign(b'!'), Leaves::Sets) => Err(self.form(token)),
+            (Kind::Sign(b'!' | b'('), _) if depth == NESTING => Err(Refusal(2, token.at, 0)),
+            (Kind::Sign(b'!'), _) => Ok(!self.one(leaves, k, depth + 1)?),
+            (Kind::Sign(b'('), _) => {
+                let found = self.any(leaves, k, depth + 1)?;
                 self.expect(Kind::Sign(b')'))?;
-                Ok(letters)
+                Ok(found)
             }
-            Kind::Word(b"t") => Ok(u16::MAX),
-            Kind::Word(b"f") => Ok(0),
-            Kind::Number(i) if i < k => Ok([0xaaaa, 0xcccc, 0xf0f0, 0xff00][i]),
-            Kind::Number(_) => Err(Refusal(4, token.at, 0)),
+            (Kind::Word(b"t"), _) => Ok(u16::MAX),
+            (Kind::Word(b"f"), _) => Ok(0),
+            (Kind::Number(i), Leaves::Propositions) if i < k => Ok(HAVING[i]),
+            (Kind::Number(_), Leaves::Propositions) => Err(Refusal(4, token.at, 0)),
+            (Kind::Word(b"Inf"), Leaves::Sets) => self.set(k),
+            (Kind::Word(b"Fin"), Leaves::Sets) => Ok(!self.set(k)?),
             _ => Err(self.form(token)),
         }
+    }
+
+    /// The set behind `Inf` or `Fin`.
+    fn set(&mut self, sets: usize) -> Answer<u16> {
+        self.expect(Kind::Sign(b'('))?;
+        let set = self.below(sets, 4)?;
+        self.expect(Kind::Sign(b')'))?;
+        Ok(HAVING[set])
     }
 
     /// Behind `--END--`.
@@ -426,6 +426,7 @@ pub fn read(text: &[u8]) -> Answer<Automaton> {
         start: 0,
         propositions: 0,
         sets: 0,
+        acceptance: 0,
         names: [[0; NAME]; PROPOSITIONS],
         lengths: [0; PROPOSITIONS],
         destinations: [[0; LETTERS]; STATES],

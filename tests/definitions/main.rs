@@ -17,8 +17,8 @@ pub type Room = (String, String);
 // Statements stand at the head of these files, and their proofs below.
 const STATEMENTS: [[&str; 2]; 4] = [["demands", "Demand1"], ["demands", "Demand2"], ["demands", "Demand3"], ["decks", "Decks"]];
 
-// What is said over lists of calls of the search stands beside them. The condition of document 02's E3 has a law, and no function writes it yet.
-const CLAIMED: [[&str; 3]; 2] = [["search", "Calls", "Searches"], ["hoa_text", "ConditionText", "conditionText"]];
+// What is said over lists of calls of the search stands beside them.
+const CLAIMED: [[&str; 3]; 1] = [["search", "Calls", "Searches"]];
 
 fn main() {
     let words: Vec<String> = env::args().collect();

@@ -3,7 +3,7 @@
 use crate::check::*;
 use crate::generate::{pair, Random};
 use crate::generate_hoa::hoa_text;
-use crate::generate_solver::{search_case, solver_case};
+use crate::generate_solver::{profile_case, search_case, solver_case, SolverCase};
 use crate::hoa;
 use std::fs;
 use std::io::{self, Write};
@@ -15,9 +15,9 @@ use std::thread;
 
 const WORKERS: usize = 2;
 
-/// Of eight cases four are HOA texts, and one each is a comparison, a clause file, a solver text and
-/// a search.
-const KINDS: usize = 8;
+/// Of ten cases four are HOA texts, and one each is a comparison, a clause file, a solver text, a
+/// search, and a clause file and a solver text for a candidate's acceptance that is named.
+const KINDS: usize = 10;
 
 /// Runs `count` cases; the differences, with the folders in which their inputs are kept.
 pub fn against(programs: &Path, seed: u64, count: usize, folder: &Path) -> io::Result<Vec<String>> {
@@ -58,6 +58,8 @@ impl Run<'_> {
             1 => self.clause_file(random),
             2 => self.decoder(random),
             3 => self.search(random),
+            4 => self.named_clause_file(random),
+            5 => self.named_decoder(random),
             _ => self.reader(random),
         }
     }
@@ -78,17 +80,44 @@ impl Run<'_> {
 
     fn clause_file(&self, random: &mut Random) -> io::Result<Checked> {
         let case = solver_case(random);
+        let sizes = [case.n.to_string(), case.m.to_string()];
+        self.clauses_of("hoa_clauses", &sizes, &case)
+    }
+
+    fn named_clause_file(&self, random: &mut Random) -> io::Result<Checked> {
+        let case = profile_case(random);
+        self.clauses_of("hoa_profile", &[vec!["clauses".to_string()], profile(&case)].concat(), &case)
+    }
+
+    fn clauses_of(&self, program: &str, arguments: &[String], case: &SolverCase) -> io::Result<Checked> {
         let reference = hoa::write(&case.reference);
-        let printed = self.printed("hoa_clauses", &[case.n.to_string(), case.m.to_string()], &reference)?;
-        Ok(check_clauses(&reference, case.n as u64, case.m as u64, &printed))
+        let printed = self.printed(program, arguments, &reference)?;
+        Ok(check_clauses(&reference, case.n as u64, case.m as u64, case.named, &printed))
     }
 
     fn decoder(&self, random: &mut Random) -> io::Result<Checked> {
         let case = solver_case(random);
+        let sizes = [case.n.to_string(), case.m.to_string()];
+        self.decoded_of("hoa_decode", &[], &sizes, &case)
+    }
+
+    fn named_decoder(&self, random: &mut Random) -> io::Result<Checked> {
+        let case = profile_case(random);
+        self.decoded_of("hoa_profile", &["decode".to_string()], &profile(&case), &case)
+    }
+
+    /// The reference's name stands between the arguments.
+    fn decoded_of(
+        &self,
+        program: &str,
+        before: &[String],
+        behind: &[String],
+        case: &SolverCase,
+    ) -> io::Result<Checked> {
         let reference = hoa::write(&case.reference);
-        let arguments = [self.kept("reference.hoa", &reference)?, case.n.to_string(), case.m.to_string()];
-        let printed = self.printed("hoa_decode", &arguments, &case.text)?;
-        Ok(check_decode(&reference, case.n as u64, case.m as u64, &case.text, &printed))
+        let name = self.kept("reference.hoa", &reference)?;
+        let printed = self.printed(program, &[before, &[name], behind].concat(), &case.text)?;
+        Ok(check_decode(&reference, case.n as u64, case.m as u64, case.named, &case.text, &printed))
     }
 
     fn search(&self, random: &mut Random) -> io::Result<Checked> {
@@ -126,4 +155,10 @@ impl Run<'_> {
         })?;
         Ok(output.stdout)
     }
+}
+
+/// The arguments that name a file: the sizes, the clause list, the acceptance, and where marks stand.
+fn profile(case: &SolverCase) -> Vec<String> {
+    let words = [case.n.to_string(), case.m.to_string(), "1".to_string(), case.acceptance_word()];
+    words.into_iter().chain(["transitions".to_string()]).collect()
 }

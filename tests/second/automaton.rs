@@ -47,6 +47,9 @@ pub struct Transition {
 pub struct Automaton {
     pub start: usize,
     pub sets: usize,
+    /// "its acceptance as the yes or no for each set of marks (no past its sets ..)" (document 02,
+    /// E3): bit M is the answer for the set of marks M.
+    pub acceptance: u16,
     /// One name for each proposition.
     pub names: Vec<Vec<u8>>,
     /// `table[state][letter]`; bit i of a letter is proposition i.
@@ -76,8 +79,13 @@ impl Automaton {
         self.table[state][letter]
     }
 
-    /// "A run begins at the start and takes, letter by letter, the one transition there."
-    /// "A run is accepting if every set is met infinitely often; with 0 sets all runs are."
+    /// Whether a run is accepting that meets just these sets infinitely often.
+    pub fn takes(&self, met: u8) -> bool {
+        says_yes(self.acceptance, met as usize)
+    }
+
+    /// "A run begins at the start and takes, letter by letter, the one transition there." It is
+    /// accepting if the acceptance says yes to the set of those sets that are met infinitely often.
     /// The word is the prefix and then the loop for ever; the loop is not empty.
     pub fn accepts(&self, prefix: &[u8], cycle: &[u8]) -> bool {
         assert!(!cycle.is_empty());
@@ -88,7 +96,7 @@ impl Automaton {
             // since then are the ones that happen infinitely often.
             if let Some(first) = readings.iter().position(|reading| reading.0 == state) {
                 let met = readings[first..].iter().fold(0, |met, reading| met | reading.1);
-                return met == self.all_marks();
+                return self.takes(met);
             }
             let (next, met) = self.read(state, cycle);
             readings.push((state, met));
@@ -109,12 +117,50 @@ pub fn all_marks(sets: usize) -> u8 {
     (1u8 << sets) - 1
 }
 
-/// "n outside 1 to 8 or m outside 0 to 4": 8, n, m.
-pub fn judge_sizes(n: u64, m: u64) -> Result<(usize, usize), Refusal> {
-    if n < 1 || n > MAX_CANDIDATE_STATES as u64 || m > MAX_SETS as u64 {
-        return Err(Refusal::new(8, n, m));
+/// What an acceptance says to a set of marks.
+pub fn says_yes(acceptance: u16, marks: usize) -> bool {
+    acceptance >> marks & 1 == 1
+}
+
+/// "every set is met infinitely often": yes to the set of all marks only.
+pub fn inf_of_all(sets: usize) -> u16 {
+    1 << all_marks(sets)
+}
+
+/// What the caller names as the candidate's acceptance: Inf of all sets, or a number whose bit M is
+/// the answer for the set of marks M.
+#[derive(Clone, Copy, PartialEq, Eq, Debug)]
+pub enum Named {
+    InfOfAll,
+    Number(u64),
+}
+
+/// The candidates of which a clause file speaks: n states, m sets, and the acceptance they carry.
+#[derive(Clone, Copy, PartialEq, Eq, Debug)]
+pub struct Candidates {
+    pub n: usize,
+    pub m: usize,
+    pub acceptance: u16,
+}
+
+impl Candidates {
+    /// "n outside 1 to 8 or m outside 0 to 4": 8, n, m. "a yes past m: 4, 0, 0, after 8" (document
+    /// 02, E3)
+    pub fn judged(n: u64, m: u64, named: Named) -> Result<Candidates, Refusal> {
+        if n < 1 || n > MAX_CANDIDATE_STATES as u64 || m > MAX_SETS as u64 {
+            return Err(Refusal::new(8, n, m));
+        }
+        let (n, m) = (n as usize, m as usize);
+        match named {
+            Named::InfOfAll => Ok(Candidates::with_inf_of_all(n, m)),
+            Named::Number(number) if number >> (1 << m) == 0 => Ok(Candidates { n, m, acceptance: number as u16 }),
+            Named::Number(_) => Err(Refusal::new(4, 0, 0)),
+        }
     }
-    Ok((n as usize, m as usize))
+
+    pub fn with_inf_of_all(n: usize, m: usize) -> Candidates {
+        Candidates { n, m, acceptance: inf_of_all(m) }
+    }
 }
 
 #[cfg(test)]
@@ -124,7 +170,8 @@ mod tests {
     /// "a and b both for ever": one state, s = 2, letters 1 {0}, 2 {1}, 3 {0 1}.
     pub fn both_for_ever() -> Automaton {
         let row = (0..4).map(|letter| Transition { to: 0, marks: letter }).collect();
-        Automaton { start: 0, sets: 2, names: vec![b"a".to_vec(), b"b".to_vec()], table: vec![row] }
+        let names = vec![b"a".to_vec(), b"b".to_vec()];
+        Automaton { start: 0, sets: 2, acceptance: inf_of_all(2), names, table: vec![row] }
     }
 
     #[test]
@@ -137,8 +184,7 @@ mod tests {
 
     #[test]
     fn zero_sets_accept_all_words() {
-        let mut all = both_for_ever();
-        all.sets = 0;
+        let mut all = Automaton { sets: 0, acceptance: inf_of_all(0), ..both_for_ever() };
         all.table[0].iter_mut().for_each(|transition| transition.marks = 0);
         assert!(all.accepts(&[], &[0]));
     }
@@ -148,17 +194,49 @@ mod tests {
         // Two states in turn; the mark is met on every second reading of the loop only.
         let there = Transition { to: 1, marks: 0 };
         let back = Transition { to: 0, marks: 1 };
-        let turn = Automaton { start: 0, sets: 1, names: vec![], table: vec![vec![there], vec![back]] };
+        let table = vec![vec![there], vec![back]];
+        let turn = Automaton { start: 0, sets: 1, acceptance: inf_of_all(1), names: vec![], table };
         assert!(turn.accepts(&[], &[0]));
+        // Of two sets one is not met there, and Fin of it accepts.
+        let other = Automaton { sets: 2, acceptance: 0b0010, ..turn };
+        assert!(other.accepts(&[], &[0]));
+    }
+
+    #[test]
+    fn the_answer_is_that_for_the_sets_met() {
+        // Letters 0 to 3 carry just the marks 0 to 3, so a loop of one letter meets just those.
+        for acceptance in 0..16 {
+            let given = Automaton { acceptance, ..both_for_ever() };
+            for met in 0..4 {
+                assert_eq!(given.accepts(&[3], &[met]), acceptance >> met & 1 == 1);
+            }
+            assert_eq!(given.accepts(&[], &[1, 2]), acceptance >> 3 & 1 == 1);
+        }
     }
 
     #[test]
     fn sizes_at_the_limits() {
         // "n = 8 passes, 9 and 0 give 8"
-        assert_eq!(judge_sizes(8, 0), Ok((8, 0)));
-        assert_eq!(judge_sizes(9, 0), Err(Refusal::new(8, 9, 0)));
-        assert_eq!(judge_sizes(0, 0), Err(Refusal::new(8, 0, 0)));
-        assert_eq!(judge_sizes(8, 4), Ok((8, 4)));
-        assert_eq!(judge_sizes(1, 5), Err(Refusal::new(8, 1, 5)));
+        let judged = |n: u64, m: u64| Candidates::judged(n, m, Named::InfOfAll);
+        assert_eq!(judged(8, 0), Ok(Candidates { n: 8, m: 0, acceptance: 1 }));
+        assert_eq!(judged(9, 0), Err(Refusal::new(8, 9, 0)));
+        assert_eq!(judged(0, 0), Err(Refusal::new(8, 0, 0)));
+        assert_eq!(judged(8, 4), Ok(Candidates { n: 8, m: 4, acceptance: 0x8000 }));
+        assert_eq!(judged(1, 5), Err(Refusal::new(8, 1, 5)));
+    }
+
+    #[test]
+    fn a_yes_past_the_sets() {
+        for (m, first_past) in [(0, 2), (1, 4), (2, 16), (3, 256), (4, 65_536)] {
+            let judged = |number: u64| Candidates::judged(1, m, Named::Number(number));
+            let acceptance = (first_past - 1) as u16;
+            assert_eq!(judged(first_past - 1), Ok(Candidates { n: 1, m: m as usize, acceptance }));
+            for past in [first_past, first_past + 1, u64::MAX, 1 << 63] {
+                assert_eq!(judged(past), Err(Refusal::new(4, 0, 0)));
+            }
+        }
+        // "after 8"
+        assert_eq!(Candidates::judged(9, 0, Named::Number(2)), Err(Refusal::new(8, 9, 0)));
+        assert_eq!(Candidates::judged(1, 5, Named::Number(u64::MAX)), Err(Refusal::new(8, 1, 5)));
     }
 }

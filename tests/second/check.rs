@@ -1,6 +1,6 @@
 //! Whether what was printed for an input is right, byte for byte.
 
-use crate::automaton::{judge_sizes, Refusal};
+use crate::automaton::{Candidates, Named, Refusal};
 use crate::clauses::File;
 use crate::compare::compare;
 use crate::decode::decode;
@@ -22,11 +22,11 @@ pub fn check_normalize(text: &[u8], printed: &[u8]) -> Checked {
     unless_refused(hoa::read(text), printed, |given| equal(printed, &hoa::write(&given)))
 }
 
-pub fn check_clauses(reference: &[u8], n: u64, m: u64, printed: &[u8]) -> Checked {
-    let due = hoa::read(reference).and_then(|reference| Ok((reference, judge_sizes(n, m)?)));
-    unless_refused(due, printed, |(reference, (n, m))| {
+pub fn check_clauses(reference: &[u8], n: u64, m: u64, named: Named, printed: &[u8]) -> Checked {
+    let due = hoa::read(reference).and_then(|reference| Ok((reference, Candidates::judged(n, m, named)?)));
+    unless_refused(due, printed, |(reference, of)| {
         let mut file = Vec::new();
-        File::new(&reference, n, m).print(&mut file).map_err(|error| error.to_string())?;
+        File::new(&reference, of).print(&mut file).map_err(|error| error.to_string())?;
         equal(printed, &file)
     })
 }
@@ -36,8 +36,8 @@ pub fn check_compare(first: &[u8], second: &[u8], printed: &[u8]) -> Checked {
     unless_refused(due, printed, |comparison| equal(printed, comparison_text(&comparison).as_bytes()))
 }
 
-pub fn check_decode(reference: &[u8], n: u64, m: u64, text: &[u8], printed: &[u8]) -> Checked {
-    let due = hoa::read(reference).and_then(|reference| decode(&reference, n, m, text));
+pub fn check_decode(reference: &[u8], n: u64, m: u64, named: Named, text: &[u8], printed: &[u8]) -> Checked {
+    let due = hoa::read(reference).and_then(|reference| decode(&reference, n, m, named, text));
     unless_refused(due, printed, |decoded| equal(printed, &decoded_text(&decoded)))
 }
 
@@ -61,12 +61,12 @@ fn equal(printed: &[u8], due: &[u8]) -> Checked {
 #[cfg(test)]
 mod tests {
     use super::*;
-    use crate::automaton::{Automaton, Transition};
+    use crate::automaton::{inf_of_all, Automaton, Transition};
 
     fn one_state(sets: usize, names: &[&str], marks: &[u8]) -> Vec<u8> {
         let row = marks.iter().map(|&marks| Transition { to: 0, marks }).collect();
         let names = names.iter().map(|name| name.as_bytes().to_vec()).collect();
-        hoa::write(&Automaton { start: 0, sets, names, table: vec![row] })
+        hoa::write(&Automaton { start: 0, sets, acceptance: inf_of_all(sets), names, table: vec![row] })
     }
 
     #[test]
@@ -97,7 +97,7 @@ mod tests {
     fn decoder_and_search_give_the_word() {
         // One state and no letter but 0; the answer states a table that never meets its set.
         let (reference, answer) = (one_state(1, &[], &[1]), b"s SATISFIABLE\nv 1 0\n");
-        let decoded = |printed: &str| check_decode(&reference, 1, 1, answer, printed.as_bytes());
+        let decoded = |printed: &str| check_decode(&reference, 1, 1, Named::InfOfAll, answer, printed.as_bytes());
         assert_eq!(decoded("refused 12 0 1\nprefix\nloop 0\n"), Ok(()));
         assert!(decoded("refused 12 0 2\nprefix\nloop 0 0\n").is_err());
         assert!(decoded("refused 12 0 1\n").is_err());

@@ -49,15 +49,17 @@ impl Numbering {
     }
 }
 
-/// The clause file of a reference, n and m.
+/// The clause file of a reference and candidates.
 pub struct File<'a> {
     reference: &'a Automaton,
     number: Numbering,
+    /// The acceptance of the candidates.
+    acceptance: u16,
 }
 
 impl<'a> File<'a> {
-    pub fn new(reference: &'a Automaton, n: usize, m: usize) -> File<'a> {
-        File { reference, number: Numbering::new(reference, n, m) }
+    pub fn new(reference: &'a Automaton, of: Candidates) -> File<'a> {
+        File { reference, number: Numbering::new(reference, of.n, of.m), acceptance: of.acceptance }
     }
 
     pub fn variables(&self) -> usize {
@@ -84,12 +86,10 @@ impl<'a> File<'a> {
         (n * n * kept) as u64
     }
 
-    /// "exactly one of "I∪K is all m" and "J∪F is all s" is true"
+    /// "Group 4 keeps a clause where the two acceptances disagree on I∪K and J∪F" (document 02, E3)
     fn closes_wrongly(&self, v: usize, l: usize, i: usize, j: usize, k: usize) -> bool {
         let marks = self.reference.step(v, l).marks as usize;
-        let all_of_candidate = (i | k) == (1 << self.number.m) - 1;
-        let all_of_reference = (j | marks) == (1 << self.number.s) - 1;
-        all_of_candidate != all_of_reference
+        says_yes(self.acceptance, i | k) != says_yes(self.reference.acceptance, j | marks)
     }
 
     /// Hands out the clauses in order, until one is not taken.
@@ -149,7 +149,7 @@ impl<'a> File<'a> {
         Ok(())
     }
 
-    /// "By q, p, v, l, I, J, K, only where exactly one .. is true: -path(q,w,p,v,I,J),
+    /// "By q, p, v, l, I, J, K", only where the acceptances disagree: "-path(q,w,p,v,I,J),
     /// -step(p,l,q), the marks as in 3 with t = q."
     fn fourth<F: FnMut(&[i32]) -> io::Result<()>>(&self, taken: &mut F) -> io::Result<()> {
         let Numbering { n, m, r, s, letters } = self.number;
@@ -200,7 +200,8 @@ fn pairs(first: usize, second: usize) -> impl Iterator<Item = (usize, usize)> {
 pub mod tests {
     use super::*;
     use crate::compare::{compare, Comparison};
-    use crate::generate::{closure, random_automaton, Random};
+    use crate::generate::{any_automaton, closure, Random};
+    use crate::generate_acceptance::random_acceptance;
     use crate::hoa;
 
     pub fn list(file: &File) -> Vec<Vec<i32>> {
@@ -277,7 +278,11 @@ pub mod tests {
 
     /// The counts of the header, which the list has, and whether it can be satisfied.
     fn deck(reference: &Automaton, n: usize, m: usize) -> (usize, u64, bool) {
-        let file = File::new(reference, n, m);
+        deck_of(reference, Candidates::with_inf_of_all(n, m))
+    }
+
+    fn deck_of(reference: &Automaton, of: Candidates) -> (usize, u64, bool) {
+        let file = File::new(reference, of);
         let clauses = list(&file);
         assert_eq!(clauses.len() as u64, file.clauses());
         (file.variables(), file.clauses(), solve(file.variables(), &clauses).is_some())
@@ -288,7 +293,7 @@ pub mod tests {
         let text = "HOA: v1 States: 1 Start: 0 Acceptance: 1 Inf(0) --BODY-- State: 0 [t] 0 --END--";
         let reference = hoa::read(text.as_bytes()).unwrap();
         let mut printed = Vec::new();
-        File::new(&reference, 1, 0).print(&mut printed).unwrap();
+        File::new(&reference, Candidates::with_inf_of_all(1, 0)).print(&mut printed).unwrap();
         let lines = "p cnf 3 6\n1 0\n2 0\n-2 -1 2 0\n-2 -1 2 0\n-3 -1 3 0\n-2 -1 0\n";
         assert_eq!(String::from_utf8(printed).unwrap(), lines);
         // "Unsatisfiable."
@@ -320,8 +325,70 @@ pub mod tests {
         // Most clauses where every transition of the reference carries all its sets.
         let row = vec![Transition { to: 0, marks: 15 }; 16];
         let names = (b'a'..b'e').map(|name| vec![name]).collect();
-        let reference = Automaton { start: 0, sets: 4, names, table: vec![row; 16] };
-        assert_eq!(File::new(&reference, 8, 4).clauses(), 8_635_826_305);
+        let reference = Automaton { start: 0, sets: 4, acceptance: inf_of_all(4), names, table: vec![row; 16] };
+        let of = Candidates::with_inf_of_all(8, 4);
+        assert_eq!(File::new(&reference, of).clauses(), 8_635_826_305);
+        // And more where the two acceptances agree on nothing: then group 4 has all of its
+        // nnrL·2^m·2^s·2^m clauses. 128 + 16,385 + 8,589,934,592 + 67,108,864.
+        let never = Automaton { acceptance: 0, ..reference };
+        let of = Candidates { acceptance: u16::MAX, ..of };
+        assert_eq!(File::new(&never, of).clauses(), 8_657_059_969);
+    }
+
+    /// Group 4 counted in another way: of all pairs of sets I, K there are 3^x with I∪K = X, where X
+    /// has x sets.
+    fn fourth_by_unions(reference: &Automaton, of: Candidates) -> u64 {
+        let mut kept = 0;
+        for edge in reference.table.iter().flatten() {
+            for union in 0..1usize << of.m {
+                let taken = of.acceptance >> union & 1 == 1;
+                let joined = (0..1u8 << reference.sets).map(|j| j | edge.marks);
+                let disagree = joined.filter(|&marks| reference.takes(marks) != taken).count() as u64;
+                kept += 3u64.pow(union.count_ones()) * disagree;
+            }
+        }
+        (of.n * of.n) as u64 * kept
+    }
+
+    #[test]
+    fn group_four_for_any_acceptance() {
+        let mut random = Random::new(19);
+        for _ in 0..300 {
+            let (states, k, sets) = (random.within(1, 3), random.within(0, 2), random.within(0, 4));
+            let reference = any_automaton(&mut random, states, k, sets);
+            let (n, m) = (random.within(1, 2), random.within(0, 2));
+            let of = Candidates { n, m, acceptance: random_acceptance(&mut random, m) };
+            let file = File::new(&reference, of);
+            let fourth = fourth_by_unions(&reference, of);
+            let last = |clauses: Vec<Vec<i32>>| clauses[clauses.len() - fourth as usize..].to_vec();
+            assert_eq!(file.fourth_group(), fourth);
+            if sets + m < 5 {
+                // The list ends with just so many clauses without a positive path.
+                let clauses = list(&file);
+                assert_eq!(clauses.len() as u64, file.clauses());
+                assert!(last(clauses).iter().all(|clause| clause.len() == 2 + m));
+            }
+        }
+    }
+
+    #[test]
+    fn fourth_group_by_hand() {
+        // "a infinitely often", one state and one set, F = {0} by letter 1 only. Of the four I, K three have
+        // the union {0}. J∪F is {} once and {0} three times, so Fin(0) disagrees on 1 + 3 + 3 + 3 and Inf(0)
+        // on 3 + 1 + 1 + 1.
+        let text = "HOA: v1 States: 1 Start: 0 AP: 1 \"a\" Acceptance: 1 Inf(0) --BODY-- State: 0 0 0 {0} --END--";
+        let reference = hoa::read(text.as_bytes()).unwrap();
+        let of = |acceptance: u16| Candidates { n: 1, m: 1, acceptance };
+        let groups = |acceptance: u16| File::new(&reference, of(acceptance)).fourth_group();
+        assert_eq!([0b01, 0b10, 0b11, 0b00].map(groups), [10, 6, 4, 12]);
+        // V = 2 steps, 2 marks, 4 paths. C = 2 + (1 + 2) + 2·2·2·2 + the fourth.
+        let deck = |acceptance: u16| deck_of(&reference, of(acceptance));
+        assert_eq!(deck(0b01), (8, 31, false));
+        assert_eq!(deck(0b10), (8, 27, true));
+        // "finitely often a" the other way round.
+        let finitely = Automaton { acceptance: 0b01, ..reference.clone() };
+        assert_eq!(deck_of(&finitely, of(0b01)), (8, 27, true));
+        assert_eq!(deck_of(&finitely, of(0b10)), (8, 31, false));
     }
 
     #[test]
@@ -345,21 +412,22 @@ pub mod tests {
     #[test]
     fn list_can_be_satisfied_just_where_a_table_agrees() {
         let mut random = Random::new(3);
-        let mut count = [0, 0];
-        for _ in 0..40 {
-            let reference = random_automaton(&mut random, 2, 1, 1);
-            let some = one_state_tables(&reference).iter().any(|table| same(table, &reference));
-            assert_eq!(deck(&reference, 1, 1).2, some);
-            count[some as usize] += 1;
+        let mut count = [[0, 0]; 4];
+        for round in 0..240 {
+            let reference = any_automaton(&mut random, 2, 1, 1);
+            let acceptance = round % 4;
+            let some = one_state_tables(&reference, acceptance).iter().any(|table| same(table, &reference));
+            assert_eq!(deck_of(&reference, Candidates { n: 1, m: 1, acceptance }).2, some);
+            count[acceptance as usize][some as usize] += 1;
         }
-        assert!(count[0] > 3 && count[1] > 3);
+        assert!(count.iter().flatten().all(|&times| times > 3), "{count:?}");
     }
 
-    /// All tables with one state and one set, for one proposition.
-    fn one_state_tables(reference: &Automaton) -> Vec<Automaton> {
+    /// All tables with one state, one set and this acceptance, for one proposition.
+    fn one_state_tables(reference: &Automaton, acceptance: u16) -> Vec<Automaton> {
         let table = |marks: u8| {
             let row = (0..2).map(|l| Transition { to: 0, marks: marks >> l & 1 }).collect();
-            Automaton { start: 0, sets: 1, names: reference.names.clone(), table: vec![row] }
+            Automaton { start: 0, sets: 1, acceptance, names: reference.names.clone(), table: vec![row] }
         };
         (0..4).map(table).collect()
     }
@@ -372,16 +440,17 @@ pub mod tests {
     fn closure_of_a_table_satisfies_just_where_it_agrees() {
         let mut random = Random::new(7);
         let mut count = [0, 0];
-        for _ in 0..60 {
-            let reference = random_automaton(&mut random, 2, 1, 1);
-            let table = random_automaton(&mut random, 2, 1, 1);
+        for _ in 0..200 {
+            let (sets, own) = (random.within(0, 2), random.within(0, 2));
+            let reference = any_automaton(&mut random, 2, 1, sets);
+            let table = any_automaton(&mut random, 2, 1, own);
             let table = Automaton { start: 0, ..table };
             let values = closure(&reference, &table);
-            let file = File::new(&reference, table.states(), table.sets);
+            let file = File::new(&reference, Candidates { n: 2, m: own, acceptance: table.acceptance });
             let satisfied = satisfies(&values, &list(&file));
             assert_eq!(satisfied, same(&table, &reference));
             count[satisfied as usize] += 1;
         }
-        assert!(count[0] > 5 && count[1] > 5);
+        assert!(count[0] > 20 && count[1] > 20, "{count:?}");
     }
 }

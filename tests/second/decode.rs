@@ -16,15 +16,15 @@ pub enum Decoded {
     Differs(Word),
 }
 
-/// Order: "8, then reading left to right, then 11, 14, 12".
-pub fn decode<R: Read>(reference: &Automaton, n: u64, m: u64, text: R) -> Result<Decoded, Refusal> {
-    let (n, m) = judge_sizes(n, m)?;
+/// Order: "8, then reading left to right, then 11, 14, 12", and 4 for the named acceptance after 8.
+pub fn decode<R: Read>(reference: &Automaton, n: u64, m: u64, named: Named, text: R) -> Result<Decoded, Refusal> {
+    let Candidates { n, m, acceptance } = Candidates::judged(n, m, named)?;
     let number = Numbering::new(reference, n, m);
     let answer = read(text, Reader::new(number.variables(), number.steps_and_marks()))?;
     match answer.verdict {
         Verdict::Unsatisfiable => Ok(Decoded::None),
         Verdict::Unknown => Ok(Decoded::Unknown),
-        Verdict::Satisfiable => judge(reference, table(reference, &number, &answer)?),
+        Verdict::Satisfiable => judge(reference, table(reference, acceptance, &number, &answer)?),
     }
 }
 
@@ -49,15 +49,20 @@ fn judge(reference: &Automaton, table: Automaton) -> Result<Decoded, Refusal> {
 }
 
 /// "Decoding takes for each state and letter the lowest p whose step is true, with its marks."
-/// "proposition names are the reference's"
-fn table(reference: &Automaton, number: &Numbering, answer: &Answer) -> Result<Automaton, Refusal> {
+/// "proposition names are the reference's"; the acceptance is the one that the caller names.
+fn table(
+    reference: &Automaton,
+    acceptance: u16,
+    number: &Numbering,
+    answer: &Answer,
+) -> Result<Automaton, Refusal> {
     let mut table = Vec::new();
     for q in 0..number.n {
         let row: Result<Vec<Transition>, Refusal> =
             (0..number.letters).map(|l| transition(number, answer, q, l)).collect();
         table.push(row?);
     }
-    Ok(Automaton { start: 0, sets: number.m, names: reference.names.clone(), table })
+    Ok(Automaton { start: 0, sets: number.m, acceptance, names: reference.names.clone(), table })
 }
 
 /// 11: "no true step, lowest".
@@ -76,8 +81,14 @@ mod tests {
     use super::*;
     use crate::clauses::tests::{both_for_ever, list, solve};
     use crate::clauses::File;
-    use crate::generate::{random_automaton, Random};
+    use crate::generate::{any_automaton, Random};
+    use crate::generate_acceptance::random_acceptance;
     use crate::hoa;
+
+    /// For Inf of all sets.
+    fn decode(reference: &Automaton, n: u64, m: u64, text: &[u8]) -> Result<Decoded, Refusal> {
+        super::decode(reference, n, m, Named::InfOfAll, text)
+    }
 
     fn all_words() -> Automaton {
         let text = "HOA: v1 States: 1 Start: 0 Acceptance: 0 t --BODY-- State: 0 [t] 0 --END--";
@@ -126,18 +137,45 @@ mod tests {
     fn satisfying_assignments_decode_to_tables_that_agree() {
         let mut random = Random::new(9);
         let mut found = 0;
-        for round in 0..25 {
+        for round in 0..60 {
             let reference = match round {
                 0 => both_for_ever(),
-                _ => random_automaton(&mut random, 2, 1, 1),
+                _ => any_automaton(&mut random, 2, 1, 1),
             };
-            let (n, m) = (2, 1);
-            let file = File::new(&reference, n, m);
+            let of = match round {
+                0 => Candidates::with_inf_of_all(2, 1),
+                _ => Candidates { n: 2, m: 1, acceptance: random_acceptance(&mut random, 1) },
+            };
+            let file = File::new(&reference, of);
             let Some(values) = solve(file.variables(), &list(&file)) else { continue };
-            let decoded = decode(&reference, n as u64, m as u64, stated(&values).as_bytes());
-            assert!(matches!(decoded, Ok(Decoded::Table(_))), "{reference:?}");
+            let named = Named::Number(of.acceptance as u64);
+            let decoded = super::decode(&reference, 2, 1, named, stated(&values).as_bytes());
+            let Ok(Decoded::Table(table)) = decoded else { panic!("{reference:?}: {decoded:?}") };
+            assert_eq!(table.acceptance, of.acceptance);
             found += 1;
         }
-        assert!(found > 10);
+        assert!(found > 10, "{found}");
+    }
+
+    #[test]
+    fn the_table_carries_the_named_acceptance() {
+        // One state, k = 0, one set; the step is 1, its mark 2, V = 4.
+        let text = "HOA: v1 States: 1 Start: 0 Acceptance: 1 Fin(0) --BODY-- State: 0 [t] 0 --END--";
+        let reference = hoa::read(text.as_bytes()).unwrap();
+        let decoded = |acceptance: u64, line: &str| {
+            let text = format!("s SATISFIABLE\nv {line} 0");
+            super::decode(&reference, 1, 1, Named::Number(acceptance), text.as_bytes())
+        };
+        assert_eq!(decoded(0b01, "1 -2"), Ok(Decoded::Table(reference.clone())));
+        let word = Word { prefix: vec![], cycle: vec![0] };
+        assert_eq!(decoded(0b01, "1 2"), Ok(Decoded::Differs(word.clone())));
+        assert_eq!(decoded(0b10, "1 -2"), Ok(Decoded::Differs(word)));
+        let marked = Transition { to: 0, marks: 1 };
+        let table = Automaton { acceptance: 0b10, table: vec![vec![marked]], ..reference.clone() };
+        assert_eq!(decoded(0b10, "1 2"), Ok(Decoded::Table(table)));
+        // After 8 and before the text.
+        assert_eq!(decoded(0b100, "x"), Err(Refusal::new(4, 0, 0)));
+        let text = &b"x"[..];
+        assert_eq!(super::decode(&reference, 0, 1, Named::Number(4), text), Err(Refusal::new(8, 0, 1)));
     }
 }

@@ -2,8 +2,10 @@
 
 use crate::automaton::*;
 use crate::clauses::Numbering;
+use crate::generate_acceptance::random_acceptance;
+use crate::generate_formula::full;
 use crate::generate_hoa::hoa_text;
-use crate::generate_solver::{search_case, solver_case};
+use crate::generate_solver::{profile_case, search_case, solver_case, SolverCase};
 use crate::hoa;
 use std::path::Path;
 use std::{fs, io};
@@ -64,7 +66,7 @@ impl Random {
 // ---------------------------------------------------------------------------------------
 // Automata
 
-/// Any automaton of this size.
+/// Any automaton of this size with Inf of all its sets.
 pub fn random_automaton(random: &mut Random, states: usize, k: usize, sets: usize) -> Automaton {
     let often = random.within(1, 3);
     let mut table = Vec::new();
@@ -75,7 +77,30 @@ pub fn random_automaton(random: &mut Random, states: usize, k: usize, sets: usiz
         };
         table.push((0..1 << k).map(&mut transition).collect());
     }
-    Automaton { start: random.below(states), sets, names: names(random, k), table }
+    let (start, names) = (random.below(states), names(random, k));
+    Automaton { start, sets, acceptance: inf_of_all(sets), names, table }
+}
+
+/// Any automaton of this size.
+pub fn any_automaton(random: &mut Random, states: usize, k: usize, sets: usize) -> Automaton {
+    let acceptance = random_acceptance(random, sets);
+    Automaton { acceptance, ..random_automaton(random, states, k, sets) }
+}
+
+/// States that letter 0 leads round, with each set on one transition only: words that tell such
+/// automata from one another are long.
+fn sparse_automaton(random: &mut Random) -> Automaton {
+    let (states, k, sets) = (random.within(3, 9), random.within(0, 1), random.within(1, 4));
+    let mut sparse = any_automaton(random, states, k, sets);
+    sparse.table.iter_mut().flatten().for_each(|edge| edge.marks = 0);
+    for q in 0..states {
+        sparse.table[q][0].to = (q + 1) % states;
+    }
+    for set in 0..sets {
+        let letter = random.below(1 << k);
+        sparse.table[random.below(states)][letter].marks |= 1 << set;
+    }
+    sparse
 }
 
 /// Sizes that are mostly small: states, k, sets.
@@ -144,27 +169,91 @@ pub fn starting_at_zero(given: &Automaton) -> Automaton {
     Automaton { start: 0, table: (0..given.states()).map(row).collect(), ..given.clone() }
 }
 
-/// The automaton with `sets` sets, at least as many as before, in another order: further sets
-/// are met always or just when an old one is.
-pub fn with_sets(random: &mut Random, given: &Automaton, sets: usize) -> Automaton {
-    let mut sources: Vec<Option<usize>> = (0..given.sets).map(Some).collect();
-    while sources.len() < sets {
-        sources.push(if given.sets > 0 && random.one_in(2) { Some(random.below(given.sets)) } else { None });
+/// When a set of an automaton with other sets is met.
+#[derive(Clone, Copy)]
+enum Source {
+    /// Just when this set of the given one is.
+    Set(usize),
+    Always,
+    Never,
+    /// By just those transitions that do not carry this set of the given one.
+    Opposite(usize),
+}
+
+impl Source {
+    fn carried(self, marks: u8) -> bool {
+        match self {
+            Source::Set(set) => marks >> set & 1 == 1,
+            Source::Always => true,
+            Source::Never => false,
+            Source::Opposite(set) => marks >> set & 1 == 0,
+        }
     }
-    random.shuffle(&mut sources);
-    let mut other = given.clone();
-    other.sets = sets;
+
+    /// Whether it may be so that the set is met infinitely often, or is not, in a run that meets just
+    /// these sets of the given one infinitely often.
+    fn may_be(self, there: bool, given: u8) -> bool {
+        match self {
+            Source::Opposite(set) => there || given >> set & 1 == 1,
+            _ => self.carried(given) == there,
+        }
+    }
+}
+
+/// The automaton with other sets. The acceptance is as before, and `free` where no run can be.
+fn with_sources(given: &Automaton, sources: &[Source], free: u16) -> Automaton {
+    let sets = sources.len();
+    let mut other = Automaton { sets, acceptance: 0, ..given.clone() };
     for edge in other.table.iter_mut().flatten() {
         let old = edge.marks;
-        let carries = |set: &usize| sources[*set].is_none_or(|source| old >> source & 1 == 1);
-        edge.marks = (0..sets).filter(carries).fold(0, |marks, set| marks | 1 << set);
+        edge.marks = (0..sets).filter(|&set| sources[set].carried(old)).fold(0, |marks, set| marks | 1 << set);
+    }
+    for marks in 0..1usize << sets {
+        let fits = |old: &u8| (0..sets).all(|set| sources[set].may_be(marks >> set & 1 == 1, *old));
+        let yes = match (0..=given.all_marks()).find(fits) {
+            Some(old) => given.takes(old),
+            None => says_yes(free, marks),
+        };
+        other.acceptance |= (yes as u16) << marks;
     }
     other
 }
 
-/// One destination or one mark is another.
+/// The automaton with `sets` sets, at least as many as before, in another order: further sets are
+/// met always or just when an old one is. Inf of all sets stays Inf of all.
+pub fn with_sets(random: &mut Random, given: &Automaton, sets: usize) -> Automaton {
+    let mut sources: Vec<Source> = (0..given.sets).map(Source::Set).collect();
+    while sources.len() < sets {
+        let copied = given.sets > 0 && random.one_in(2);
+        sources.push(if copied { Source::Set(random.below(given.sets)) } else { Source::Always });
+    }
+    random.shuffle(&mut sources);
+    with_sources(given, &sources, 0)
+}
+
+/// The same with another acceptance: further sets may also be met never, or where an old one is not,
+/// and the acceptance says anything where no run can be.
+pub fn in_other_words(random: &mut Random, given: &Automaton, sets: usize) -> Automaton {
+    let mut sources: Vec<Source> = (0..given.sets).map(Source::Set).collect();
+    while sources.len() < sets {
+        sources.push(match random.below(4) {
+            0 if given.sets > 0 => Source::Set(random.below(given.sets)),
+            1 if given.sets > 0 => Source::Opposite(random.below(given.sets)),
+            2 => Source::Never,
+            _ => Source::Always,
+        });
+    }
+    random.shuffle(&mut sources);
+    with_sources(given, &sources, random.next() as u16)
+}
+
+/// One destination, one mark or one answer of the acceptance is another.
 pub fn nearly(random: &mut Random, given: &Automaton) -> Automaton {
     let mut other = given.clone();
+    if random.one_in(6) {
+        other.acceptance ^= 1 << random.below(1 << given.sets);
+        return other;
+    }
     let (state, letter) = (random.below(given.states()), random.below(given.letters()));
     let edge = &mut other.table[state][letter];
     if given.sets > 0 && random.one_in(2) {
@@ -251,8 +340,9 @@ pub fn generate(kind: &str, seed: u64, count: usize, directory: &Path) -> io::Re
         "hoa" => write_hoa,
         "pairs" => write_pair,
         "solver" => write_solver,
+        "profile" => write_profile,
         "search" => write_search,
-        _ => return Err(io::Error::new(io::ErrorKind::InvalidInput, "kinds: hoa, pairs, solver, search")),
+        _ => return Err(io::Error::new(io::ErrorKind::InvalidInput, "kinds: hoa, pairs, solver, profile, search")),
     };
     fs::create_dir_all(directory)?;
     for case in 0..count {
@@ -274,7 +364,16 @@ fn write_pair(random: &mut Random, name: Names) -> io::Result<()> {
 }
 
 fn write_solver(random: &mut Random, name: Names) -> io::Result<()> {
-    let case = solver_case(random);
+    write_case(solver_case(random), name)
+}
+
+fn write_profile(random: &mut Random, name: Names) -> io::Result<()> {
+    let case = profile_case(random);
+    fs::write(name("acceptance"), format!("{}\n", case.acceptance_word()))?;
+    write_case(case, name)
+}
+
+fn write_case(case: SolverCase, name: Names) -> io::Result<()> {
     fs::write(name("reference.hoa"), hoa::write(&case.reference))?;
     fs::write(name("sizes"), format!("{} {}\n", case.n, case.m))?;
     fs::write(name("solver"), case.text)
@@ -289,24 +388,29 @@ fn write_search(random: &mut Random, name: Names) -> io::Result<()> {
     Ok(())
 }
 
-/// Two automata: the same but for names, copies and sets; nearly that; or any two. Now and then
-/// they have not the same number of propositions.
+/// Two automata: the same but for names, copies and sets; nearly that; the second accepts what the
+/// first does not; or any two. Now and then they have not the same number of propositions.
 pub fn pair(random: &mut Random) -> (Automaton, Automaton) {
     let (states, k, sets) = random_sizes(random);
-    let first = random_automaton(random, states, k, sets);
+    let any = any_automaton(random, states, k, sets);
+    let first = if random.one_in(6) { sparse_automaton(random) } else { any };
+    let (states, k, sets) = (first.states(), first.propositions(), first.sets);
     if random.one_in(40) {
         let other_k = random.within(0, 4);
-        return (first, random_automaton(random, states, other_k, sets));
+        return (first, any_automaton(random, states, other_k, sets));
     }
     if random.one_in(5) {
         let (other_states, other_sets) = (random.within(1, 4), random.within(0, 3));
-        return (first, random_automaton(random, other_states, k, other_sets));
+        return (first, any_automaton(random, other_states, k, other_sets));
     }
     let copies = (states + random.below(3)).min(MAX_STATES);
     let more = (sets + random.below(3)).min(MAX_SETS);
     let (copied, _) = with_copies(random, &first, copies);
-    let mut second = with_sets(random, &copied, more);
-    for _ in 0..random.below(3) {
+    let mut second = in_other_words(random, &copied, more);
+    if random.one_in(20) {
+        second.acceptance ^= full(more);
+    }
+    for _ in 0..random.below(4) {
         second = nearly(random, &second);
     }
     if random.one_in(2) {
@@ -326,10 +430,14 @@ mod tests {
         let mut random = Random::new(1);
         for _ in 0..200 {
             let (states, k, sets) = (random.within(1, 4), random.within(0, 2), random.within(0, 2));
-            let given = random_automaton(&mut random, states, k, sets);
+            let given = any_automaton(&mut random, states, k, sets);
             let (copied, _) = with_copies(&mut random, &given, states + 2);
             let other = starting_at_zero(&with_sets(&mut random, &copied, sets + 1));
             assert_eq!(other.start, 0);
+            assert_eq!(compare(&given, &other), Ok(Comparison::Same));
+            let is_inf_of_all = |given: &Automaton| given.acceptance == inf_of_all(given.sets);
+            assert!(!is_inf_of_all(&given) || is_inf_of_all(&other));
+            let other = in_other_words(&mut random, &copied, sets + 2);
             assert_eq!(compare(&given, &other), Ok(Comparison::Same));
         }
     }
@@ -339,7 +447,7 @@ mod tests {
         let mut random = Random::new(2);
         for _ in 0..200 {
             let (states, k, sets) = random_sizes(&mut random);
-            let given = random_automaton(&mut random, states, k, sets);
+            let given = any_automaton(&mut random, states, k, sets);
             assert_eq!(hoa::read(&hoa::write(&given)), Ok(given));
         }
     }
@@ -347,11 +455,15 @@ mod tests {
     #[test]
     fn pairs_are_of_both_kinds() {
         let mut random = Random::new(3);
-        let mut same = 0;
+        let (mut same, mut long) = (0, 0);
         for _ in 0..400 {
             let (first, second) = pair(&mut random);
-            same += (compare(&first, &second) == Ok(Comparison::Same)) as usize;
+            match compare(&first, &second) {
+                Ok(Comparison::Same) => same += 1,
+                Ok(Comparison::Differ(word)) => long += (word.cycle.len() > 5) as usize,
+                Err(_) => {}
+            }
         }
-        assert!((100..300).contains(&same), "{same} of 400");
+        assert!((100..300).contains(&same) && long > 5, "{same} the same, {long} with long loops of 400");
     }
 }

@@ -1,9 +1,9 @@
 //! Generated HOA texts: valid ones in many layouts, and damaged ones.
 
 use crate::automaton::*;
-use crate::generate::{names, random_automaton, random_sizes, Random};
-
-type Token = Vec<u8>;
+use crate::generate::{any_automaton, names, random_sizes, Random};
+use crate::generate_acceptance::condition;
+use crate::generate_formula::{full, label, words, Token};
 
 /// Nearly half are valid.
 pub fn hoa_text(random: &mut Random) -> Vec<u8> {
@@ -14,14 +14,14 @@ pub fn hoa_text(random: &mut Random) -> Vec<u8> {
 fn parts_and_text(random: &mut Random) -> (Parts, Vec<u8>) {
     let valid = random.below(100) < 37;
     let (states, k, sets) = random_sizes(random);
-    let automaton = random_automaton(random, states, k, sets);
+    let automaton = any_automaton(random, states, k, sets);
     let mut parts = Parts::of(random, &automaton);
     if valid {
         let text = lay_out(random, &parts.tokens());
         let text = if random.one_in(100) { lengthened(text, 65_536) } else { text };
         return (parts, text);
     }
-    let text = match random.below(7) {
+    let text = match random.below(8) {
         0 | 1 => {
             parts.damage(random, &automaton);
             lay_out(random, &parts.tokens())
@@ -30,7 +30,11 @@ fn parts_and_text(random: &mut Random) -> (Parts, Vec<u8>) {
             parts.damage_short_forms(random, &automaton);
             lay_out(random, &parts.tokens())
         }
-        3 | 4 => {
+        3 => {
+            parts.damage_acceptance(random, &automaton);
+            lay_out(random, &parts.tokens())
+        }
+        4 | 5 => {
             let mut tokens = parts.tokens();
             damage_tokens(random, &mut tokens);
             lay_out(random, &tokens)
@@ -42,10 +46,6 @@ fn parts_and_text(random: &mut Random) -> (Parts, Vec<u8>) {
         }
     };
     (parts, text)
-}
-
-fn words(text: &str) -> Vec<Token> {
-    text.split_whitespace().map(|word| word.as_bytes().to_vec()).collect()
 }
 
 fn quoted(text: &[u8]) -> Token {
@@ -112,19 +112,15 @@ impl Parts {
         }
         let at = random.below(self.states.len());
         let labelled = self.state_of_kind(random, false);
-        match random.below(17) {
+        match random.below(16) {
             0 => drop_one(random, &mut self.items),
             1 => double_one(random, &mut self.items),
             2 => drop_one(random, &mut self.states),
             3 => double_one(random, &mut self.states),
-            4 | 14 => drop_one(random, &mut self.states[at].edges),
+            4 | 8 => drop_one(random, &mut self.states[at].edges),
             5 => double_one(random, &mut self.states[labelled].edges),
-            6 | 15 | 16 => self.states[labelled].edges.insert(0, any_edge(random, automaton)),
+            6 | 14 | 15 => self.states[labelled].edges.insert(0, any_edge(random, automaton)),
             7 => self.replace(b"AP:", names_item(odd_names(random))),
-            8 => {
-                let item = odd_acceptance(random, automaton.sets);
-                self.replace(b"Acceptance:", item);
-            }
             9 => self.nest(random, automaton),
             10 => self.odd_state(random),
             11 => {
@@ -143,6 +139,11 @@ impl Parts {
                 self.replace(b"States:", words(&format!("States: {states}")));
             }
         }
+    }
+
+    fn damage_acceptance(&mut self, random: &mut Random, automaton: &Automaton) {
+        let item = odd_acceptance(random, automaton);
+        self.replace(b"Acceptance:", item);
     }
 
     fn replace(&mut self, name: &[u8], item: Vec<Token>) {
@@ -285,7 +286,7 @@ fn items(random: &mut Random, automaton: &Automaton) -> Vec<Vec<Token>> {
     let mut items = vec![
         words(&format!("States: {}", automaton.states())),
         words(&format!("Start: {}", automaton.start)),
-        acceptance_item(automaton.sets),
+        acceptance_item(random, automaton),
     ];
     if automaton.propositions() > 0 || random.one_in(2) {
         items.push(names_item(automaton.names.clone()));
@@ -297,10 +298,9 @@ fn items(random: &mut Random, automaton: &Automaton) -> Vec<Vec<Token>> {
     items
 }
 
-fn acceptance_item(sets: usize) -> Vec<Token> {
-    let parts: Vec<String> = (0..sets).map(|set| format!("Inf ( {set} )")).collect();
-    let condition = if sets == 0 { "t".to_string() } else { parts.join(" & ") };
-    words(&format!("Acceptance: {sets} {condition}"))
+fn acceptance_item(random: &mut Random, automaton: &Automaton) -> Vec<Token> {
+    let sets = automaton.sets;
+    [words(&format!("Acceptance: {sets}")), condition(random, automaton.acceptance, sets)].concat()
 }
 
 fn names_item(names: Vec<Vec<u8>>) -> Vec<Token> {
@@ -349,20 +349,59 @@ fn odd_names(random: &mut Random) -> Vec<Vec<u8>> {
     odd
 }
 
-fn odd_acceptance(random: &mut Random, sets: usize) -> Vec<Token> {
-    let odd = [
-        "0 f", "0", "1 t", "1 Fin ( 0 )", "1 Inf ( ! 0 )", "1 ( Inf ( 0 ) )", "2 Inf ( 0 ) | Inf ( 1 )",
-        "2 Inf ( 1 ) & Inf ( 0 )", "2 Inf ( 0 )", "1 Inf ( 0 ) & Inf ( 0 )", "5 Inf ( 0 )", "00 t", "01 Inf ( 0 )",
-        "1 Inf ( 00 )", "0 t t", "0 t @a", "1 Inf ( 0 ) [", "1 Inf ( 0 ) \"x\"", "1 Inf ( 0 ) --END--", "t",
-        "1 Inf ( 0 ) --ABORT--", "1 Inf ( 0 ) /* */", "1 Inf", "1 Inf (", "2 Inf ( 0 ) &", "1 Inf ( 1 )", "0 t 1",
-        "3 Inf ( 0 ) & Inf ( 1 ) & Inf ( 1 )", "99999999999999999999 t", "0 t 00", "1 Inf-x ( 0 )", "0 t-",
-    ];
-    if random.one_in(4) {
-        let mut item = acceptance_item(sets);
-        drop_one(random, &mut item);
-        return item;
+/// Another acceptance, which is mostly refused.
+fn odd_acceptance(random: &mut Random, automaton: &Automaton) -> Vec<Token> {
+    let mut item = acceptance_item(random, automaton);
+    match random.below(8) {
+        0 => drop_one(random, &mut item),
+        1 => {
+            let at = random.within(1, item.len());
+            item.insert(at, any_sign(random));
+        }
+        2 => {
+            let at = random.within(1, item.len() - 1);
+            item[at] = any_sign(random);
+        }
+        3 => nest_condition(random, &mut item),
+        4 => {
+            // Sets that are declared no longer, or more of them than are named.
+            item[1] = random.pick(&["0", "1", "2", "3", "4", "5", "00", "t"]).as_bytes().to_vec();
+        }
+        _ => return words(&format!("Acceptance: {}", random.pick(&ODD_CONDITIONS))),
     }
-    words(&format!("Acceptance: {}", random.pick(&odd)))
+    item
+}
+
+const ODD_CONDITIONS: [&str; 58] = [
+    "0 f", "0", "1 t", "1 Fin ( 0 )", "1 Inf ( ! 0 )", "1 ( Inf ( 0 ) )", "2 Inf ( 0 ) | Inf ( 1 )",
+    "2 Inf ( 1 ) & Inf ( 0 )", "2 Inf ( 0 )", "1 Inf ( 0 ) & Inf ( 0 )", "5 Inf ( 0 )", "00 t", "01 Inf ( 0 )",
+    "1 Inf ( 00 )", "0 t t", "0 t @a", "1 Inf ( 0 ) [", "1 Inf ( 0 ) \"x\"", "1 Inf ( 0 ) --END--", "t",
+    "1 Inf ( 0 ) --ABORT--", "1 Inf ( 0 ) /* */", "1 Inf", "1 Inf (", "2 Inf ( 0 ) &", "1 Inf ( 1 )", "0 t 1",
+    "3 Inf ( 0 ) & Inf ( 1 ) & Inf ( 1 )", "99999999999999999999 t", "0 t 00", "1 Inf-x ( 0 )", "0 t-",
+    "1 ! Inf ( 0 )", "1 ! t", "2 Fin ( 0 ) & ! Inf ( 1 )", "1 Inf ( 18446744073709551616 )", "0 Inf ( 0 )",
+    "1 ( Inf ( 0 )", "1 Inf ( 0 ) )", "1 ( )", "1 Inf ( )", "1 Inf ( ( 0 ) )", "1 Inf ( 0", "1 Inf 0", "1 Inf0",
+    "1 tInf ( 0 )", "1 Inft", "1 ft", "1 t & & f", "1 t | & f", "1 | t", "1 t |", "1 Inf ( 0 ) Fin ( 0 )",
+    "1 ( t ) ( f )", "1 t ( f )", "1 INF ( 0 )", "1 Inf : ( 0 )", "1 t f",
+];
+
+/// What may stand in a condition, or nearly so.
+fn any_sign(random: &mut Random) -> Token {
+    let signs =
+        ["&", "|", "(", ")", "!", "t", "f", "Inf", "Fin", "0", "1", "3", "4", "00", "Inft", "t0", "--BODY--", "x:"];
+    random.pick(&signs).as_bytes().to_vec()
+}
+
+/// The condition, or another that is joined to it, in about 32 brackets; at times one is not closed.
+fn nest_condition(random: &mut Random, item: &mut Vec<Token>) {
+    let depth = random.within(31, 34);
+    let closed = depth - random.one_in(4) as usize;
+    let inner = if random.one_in(2) {
+        item.split_off(2)
+    } else {
+        item.extend(words("|"));
+        words("f")
+    };
+    item.extend([vec![b"(".to_vec(); depth], inner, vec![b")".to_vec(); closed]].concat());
 }
 
 // ---------------------------------------------------------------------------------------
@@ -463,113 +502,6 @@ fn marks_part(random: &mut Random, marks: u8) -> Vec<Token> {
     random.shuffle(&mut marks);
     let listed: Vec<String> = marks.iter().map(|mark| mark.to_string()).collect();
     words(&format!("{{ {} }}", listed.join(" ")))
-}
-
-fn full(k: usize) -> u16 {
-    if k == 4 {
-        u16::MAX
-    } else {
-        (1 << (1 << k)) - 1
-    }
-}
-
-fn letters_with(k: usize, proposition: usize) -> u16 {
-    (0..1u16 << k).filter(|letter| letter >> proposition & 1 == 1).fold(0, |set, letter| set | 1 << letter)
-}
-
-/// How tightly a formula's outermost sign binds.
-#[derive(Clone, Copy, PartialEq, PartialOrd)]
-enum Binds {
-    Or,
-    And,
-    Tight,
-}
-
-struct Formula {
-    binds: Binds,
-    tokens: Vec<Token>,
-}
-
-impl Formula {
-    fn new(binds: Binds, tokens: Vec<Token>) -> Formula {
-        Formula { binds, tokens }
-    }
-
-    /// In brackets where it binds too loosely.
-    fn at_least(self, binds: Binds) -> Vec<Token> {
-        if self.binds >= binds {
-            return self.tokens;
-        }
-        [words("("), self.tokens, words(")")].concat()
-    }
-}
-
-/// A label that just these letters satisfy; with many letters not deep, or the text is too long.
-fn label(random: &mut Random, k: usize, letters: u16) -> Vec<Token> {
-    let depth = random.pick(if k < 3 { &[0, 0, 1, 2, 3, 5] } else { &[0, 0, 0, 0, 0, 1] });
-    formula(random, k, letters, depth).tokens
-}
-
-fn formula(random: &mut Random, k: usize, letters: u16, depth: usize) -> Formula {
-    if depth == 0 {
-        return flat_formula(random, k, letters);
-    }
-    let full = full(k);
-    let (some, more) = (random.next() as u16 & full, random.next() as u16 & full);
-    match random.below(5) {
-        0 => {
-            let first = formula(random, k, letters & some, depth - 1).at_least(Binds::And);
-            let second = formula(random, k, letters & !(some & more), depth - 1);
-            Formula::new(Binds::Or, [first, words("|"), second.at_least(Binds::And)].concat())
-        }
-        1 => {
-            let first = formula(random, k, letters | some, depth - 1).at_least(Binds::Tight);
-            let second = formula(random, k, letters | (more & !some), depth - 1);
-            Formula::new(Binds::And, [first, words("&"), second.at_least(Binds::Tight)].concat())
-        }
-        2 => {
-            let opposite = formula(random, k, full & !letters, depth - 1).at_least(Binds::Tight);
-            Formula::new(Binds::Tight, [words("!"), opposite].concat())
-        }
-        3 => {
-            let inner = formula(random, k, letters, depth - 1).tokens;
-            Formula::new(Binds::Tight, [words("("), inner, words(")")].concat())
-        }
-        _ => formula(random, k, letters, depth - 1),
-    }
-}
-
-fn flat_formula(random: &mut Random, k: usize, letters: u16) -> Formula {
-    if letters == full(k) && !random.one_in(4) {
-        return Formula::new(Binds::Tight, words("t"));
-    }
-    if letters == 0 {
-        return Formula::new(Binds::Tight, words("f"));
-    }
-    for proposition in 0..k {
-        if letters == letters_with(k, proposition) {
-            return Formula::new(Binds::Tight, words(&proposition.to_string()));
-        }
-        if letters == full(k) & !letters_with(k, proposition) {
-            return Formula::new(Binds::Tight, words(&format!("! {proposition}")));
-        }
-    }
-    let mut cubes: Vec<String> =
-        (0..1 << k).filter(|l| letters >> l & 1 == 1).map(|l| cube(random, k, l)).collect();
-    random.shuffle(&mut cubes);
-    let binds = if cubes.len() > 1 { Binds::Or } else { Binds::And };
-    Formula::new(binds, words(&cubes.join(" | ")))
-}
-
-/// The formula of one letter, its literals in any order.
-fn cube(random: &mut Random, k: usize, letter: usize) -> String {
-    if k == 0 {
-        return "t".to_string();
-    }
-    let literal = |i: usize| if letter >> i & 1 == 1 { i.to_string() } else { format!("! {i}") };
-    let mut literals: Vec<String> = (0..k).map(literal).collect();
-    random.shuffle(&mut literals);
-    literals.join(" & ")
 }
 
 // ---------------------------------------------------------------------------------------
@@ -742,7 +674,7 @@ mod tests {
         let (mut all_listed, mut some_listed, mut repeated, mut left_out) = (0, 0, 0, 0);
         for _ in 0..400 {
             let (states, k, sets) = random_sizes(&mut random);
-            let automaton = random_automaton(&mut random, states, k, sets);
+            let automaton = any_automaton(&mut random, states, k, sets);
             let mut parts = Parts::of(&mut random, &automaton);
             let text = lay_out(&mut random, &parts.tokens());
             let due = Ok(automaton);
@@ -775,12 +707,48 @@ mod tests {
     }
 
     #[test]
+    fn damage_of_the_acceptance_has_all_ends() {
+        let mut random = Random::new(7);
+        let mut ends: BTreeMap<&str, usize> = BTreeMap::new();
+        for _ in 0..2000 {
+            let (states, k, sets) = random_sizes(&mut random);
+            let automaton = any_automaton(&mut random, states, k, sets);
+            let mut parts = Parts::of(&mut random, &automaton);
+            parts.damage_acceptance(&mut random, &automaton);
+            let text = lay_out(&mut random, &parts.tokens());
+            let end = match hoa::read(&text) {
+                Ok(read) if read.acceptance == automaton.acceptance => "the same",
+                Ok(_) => "another",
+                Err(Refusal { number: 1, a, .. }) => match &text[a as usize..] {
+                    [b'!', ..] => "1 at !",
+                    [b'(' | b')', ..] => "1 at a bracket",
+                    [b'&' | b'|', ..] => "1 at a sign",
+                    [b'0'..=b'9', ..] => "1 at a number",
+                    [b'I' | b'F' | b't' | b'f', ..] => "1 at a word",
+                    rest if rest.starts_with(b"--BODY--") => "1 at the body",
+                    _ => "1 elsewhere",
+                },
+                Err(Refusal { number: 2, a, .. }) if text[a as usize] == b'(' => "2 at a bracket",
+                Err(Refusal { number: 2, .. }) => "2 at the count",
+                Err(Refusal { number: 4, .. }) => "4",
+                Err(_) => "another refusal",
+            };
+            *ends.entry(end).or_default() += 1;
+        }
+        let due = [
+            "the same", "another", "1 at !", "1 at a bracket", "1 at a sign", "1 at a number", "1 at a word",
+            "1 at the body", "1 elsewhere", "2 at a bracket", "2 at the count", "4",
+        ];
+        assert!(due.iter().all(|end| ends.get(end) > Some(&20)), "{ends:?}");
+    }
+
+    #[test]
     fn damage_of_short_forms_has_all_ends() {
         let mut random = Random::new(6);
         let mut ends: BTreeMap<&str, usize> = BTreeMap::new();
         for _ in 0..2000 {
             let (states, k, sets) = random_sizes(&mut random);
-            let automaton = random_automaton(&mut random, states, k, sets);
+            let automaton = any_automaton(&mut random, states, k, sets);
             let mut parts = Parts::of(&mut random, &automaton);
             parts.damage_short_forms(&mut random, &automaton);
             let text = lay_out(&mut random, &parts.tokens());

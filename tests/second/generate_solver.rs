@@ -9,18 +9,58 @@ pub struct SolverCase {
     pub reference: Automaton,
     pub n: usize,
     pub m: usize,
+    /// The acceptance that the caller names for the candidate.
+    pub named: Named,
     pub text: Vec<u8>,
 }
 
-/// A reference and a text for it; now and then n or m is out of range.
+impl SolverCase {
+    /// The argument that names the acceptance.
+    pub fn acceptance_word(&self) -> String {
+        match self.named {
+            Named::InfOfAll => "all".to_string(),
+            Named::Number(number) => number.to_string(),
+        }
+    }
+}
+
+/// A reference and a text for it, for Inf of all sets; now and then n or m is out of range.
 pub fn solver_case(random: &mut Random) -> SolverCase {
     let plan = Plan::new(random);
-    let n = plan.core.states() + random.below(3);
-    let m = plan.core.sets + random.below(2);
+    let (n, m) = plan.sizes(random);
+    let wide = with_sets(random, &plan.core, m);
+    case_of(random, plan, wide, n, Named::InfOfAll)
+}
+
+/// The same for a candidate's acceptance that is named; now and then it says yes past its sets.
+pub fn profile_case(random: &mut Random) -> SolverCase {
+    let plan = Plan::with_any_acceptance(random);
+    let (n, m) = plan.sizes(random);
+    let wide = in_other_words(random, &plan.core, m);
+    let named = if wide.acceptance == inf_of_all(m) && random.one_in(2) {
+        Named::InfOfAll
+    } else if random.one_in(15) {
+        Named::Number(past_the_sets(random, m))
+    } else {
+        Named::Number(wide.acceptance as u64)
+    };
+    case_of(random, plan, wide, n, named)
+}
+
+/// A number with a yes past m sets.
+fn past_the_sets(random: &mut Random, m: usize) -> u64 {
+    let first = 1 << (1 << m);
+    let more = random.next() % first;
+    random.pick(&[first, first + more, first + more, 1 << 16, (1 << 16) + more, u32::MAX as u64])
+}
+
+/// A text, mostly with a table that has the sets and the acceptance of `wide`.
+fn case_of(random: &mut Random, plan: Plan, wide: Automaton, n: usize, named: Named) -> SolverCase {
+    let m = wide.sets;
     let text = match random.below(8) {
         0 => verdict_only(random, "UNSATISFIABLE"),
         1 => verdict_only(random, "UNKNOWN"),
-        _ => table_text(random, &plan, n, m),
+        _ => table_text(random, &plan, &wide, n),
     };
     let (n, m) = match random.below(60) {
         0 => (0, m),
@@ -28,7 +68,7 @@ pub fn solver_case(random: &mut Random) -> SolverCase {
         2 => (n, 5),
         _ => (n, m),
     };
-    SolverCase { reference: plan.reference, n, m, text }
+    SolverCase { reference: plan.reference, n, m, named, text }
 }
 
 /// A small automaton and a reference that agrees with it.
@@ -38,26 +78,47 @@ struct Plan {
 }
 
 impl Plan {
+    /// With Inf of all sets, for which the search and the clause program ask; the reference may say
+    /// the same in other words.
     fn new(random: &mut Random) -> Plan {
-        let (states, k, sets) = (random.within(1, 2), random.within(0, 2), random.within(0, 2));
+        let (states, k, sets) = Plan::core_sizes(random);
         let core = random_automaton(random, states, k, sets);
-        let more = states + random.below(3);
+        Plan::of(random, core)
+    }
+
+    fn with_any_acceptance(random: &mut Random) -> Plan {
+        let (states, k, sets) = Plan::core_sizes(random);
+        let core = any_automaton(random, states, k, sets);
+        Plan::of(random, core)
+    }
+
+    fn core_sizes(random: &mut Random) -> (usize, usize, usize) {
+        (random.within(1, 2), random.within(0, 2), random.within(0, 2))
+    }
+
+    fn of(random: &mut Random, core: Automaton) -> Plan {
+        let more = core.states() + random.below(3);
         let (copied, _) = with_copies(random, &core, more);
-        let sets = sets + random.below(2);
-        let reference = with_sets(random, &copied, sets);
+        let sets = core.sets + random.below(2);
+        let other_sets = if random.one_in(2) { with_sets } else { in_other_words };
+        let reference = other_sets(random, &copied, sets);
         Plan { core, reference }
     }
 
+    /// n and m for which there is a table.
+    fn sizes(&self, random: &mut Random) -> (usize, usize) {
+        (self.core.states() + random.below(3), self.core.sets + random.below(2))
+    }
+
     /// What each step and mark variable is: a table that agrees, with further true steps to states
-    /// that are copies of the same one.
-    fn values(&self, random: &mut Random, n: usize, m: usize) -> Vec<bool> {
-        let wide = with_sets(random, &self.core, m);
-        let (copied, mut origin) = with_copies(random, &wide, n);
+    /// that are copies of the same one. `wide` is the small automaton with as many sets as are asked for.
+    fn values(&self, random: &mut Random, wide: &Automaton, n: usize) -> Vec<bool> {
+        let (copied, mut origin) = with_copies(random, wide, n);
         origin.swap(0, copied.start);
         let table = starting_at_zero(&copied);
         let mut values = closure(&self.reference, &table);
         if random.one_in(2) {
-            let number = Numbering::new(&self.reference, n, m);
+            let number = Numbering::new(&self.reference, n, wide.sets);
             self.further_steps(random, &number, &table, &origin, &mut values);
             close(&self.reference, &number, &mut values);
         }
@@ -94,9 +155,9 @@ fn verdict_only(random: &mut Random, verdict: &str) -> Vec<u8> {
     lines.text(random)
 }
 
-fn table_text(random: &mut Random, plan: &Plan, n: usize, m: usize) -> Vec<u8> {
-    let mut values = plan.values(random, n, m);
-    let number = Numbering::new(&plan.reference, n, m);
+fn table_text(random: &mut Random, plan: &Plan, wide: &Automaton, n: usize) -> Vec<u8> {
+    let mut values = plan.values(random, wide, n);
+    let number = Numbering::new(&plan.reference, n, wide.sets);
     if random.one_in(3) {
         another_table(random, &number, &mut values);
     }
@@ -312,7 +373,10 @@ fn next_answer(random: &mut Random, plan: &Plan, n: usize, m: usize) -> Vec<u8> 
     match random.below(20) {
         0 => verdict_text("UNKNOWN"),
         1 if random.one_in(2) => b"s SATISFIABLE\nv 0\n".to_vec(),
-        2 if possible => table_text(random, plan, n, m),
+        2 if possible => {
+            let wide = with_sets(random, &plan.core, m);
+            table_text(random, plan, &wide, n)
+        }
         3..=15 if possible => stated(random, plan, n, m),
         _ => verdict_text("UNSATISFIABLE"),
     }
@@ -321,7 +385,8 @@ fn next_answer(random: &mut Random, plan: &Plan, n: usize, m: usize) -> Vec<u8> 
 /// The steps and marks of a table that agrees, or now and then of another, on one line.
 fn stated(random: &mut Random, plan: &Plan, n: usize, m: usize) -> Vec<u8> {
     let number = Numbering::new(&plan.reference, n, m);
-    let mut values = plan.values(random, n, m);
+    let wide = with_sets(random, &plan.core, m);
+    let mut values = plan.values(random, &wide, n);
     if random.one_in(12) {
         another_table(random, &number, &mut values);
     }
@@ -339,31 +404,58 @@ mod tests {
     #[test]
     fn planned_values_satisfy_the_list() {
         let mut random = Random::new(6);
-        for _ in 0..30 {
-            let plan = Plan::new(&mut random);
+        for _ in 0..60 {
+            let plan = Plan::with_any_acceptance(&mut random);
             let (n, m) = (plan.core.states() + random.below(2), plan.core.sets);
-            let values = plan.values(&mut random, n, m);
-            assert!(satisfies(&values, &list(&File::new(&plan.reference, n, m))));
+            let wide = in_other_words(&mut random, &plan.core, m);
+            let values = plan.values(&mut random, &wide, n);
+            let of = Candidates { n, m, acceptance: wide.acceptance };
+            assert!(satisfies(&values, &list(&File::new(&plan.reference, of))));
         }
+    }
+
+    /// How often each answer of the decoder occurs: table, none, unknown, and the refusals.
+    fn answers(cases: fn(&mut Random) -> SolverCase) -> ([usize; 3], [usize; 13]) {
+        let mut random = Random::new(7);
+        let (mut said, mut refused) = ([0; 3], [0; 13]);
+        for _ in 0..1500 {
+            let case = cases(&mut random);
+            match decode(&case.reference, case.n as u64, case.m as u64, case.named, &case.text[..]) {
+                Ok(Decoded::Table(_)) => said[0] += 1,
+                Ok(Decoded::None) => said[1] += 1,
+                Ok(Decoded::Unknown) => said[2] += 1,
+                Ok(Decoded::Differs(word)) => refused[word.refusal().number as usize] += 1,
+                Err(refusal) => refused[refusal.number as usize] += 1,
+            }
+        }
+        (said, refused)
     }
 
     #[test]
     fn all_answers_of_the_decoder_occur() {
-        let mut random = Random::new(7);
-        let mut count = [0; 13];
-        let mut said = [0; 3];
-        for _ in 0..1500 {
-            let case = solver_case(&mut random);
-            match decode(&case.reference, case.n as u64, case.m as u64, &case.text[..]) {
-                Ok(Decoded::Table(_)) => said[0] += 1,
-                Ok(Decoded::None) => said[1] += 1,
-                Ok(Decoded::Unknown) => said[2] += 1,
-                Ok(Decoded::Differs(word)) => count[word.refusal().number as usize] += 1,
-                Err(refusal) => count[refusal.number as usize] += 1,
-            }
-        }
+        let (said, refused) = answers(solver_case);
         assert!(said.iter().all(|&times| times > 50), "{said:?}");
-        assert!(count[8..].iter().all(|&times| times > 20), "{count:?}");
+        assert!(refused[8..].iter().all(|&times| times > 20), "{refused:?}");
+        let (said, refused) = answers(profile_case);
+        assert!(said[0] > 300 && said.iter().all(|&times| times > 50), "{said:?}");
+        assert!(refused[8..].iter().chain([&refused[4]]).all(|&times| times > 20), "{refused:?}");
+    }
+
+    #[test]
+    fn many_acceptances_are_named() {
+        let mut random = Random::new(10);
+        let (mut all, mut others, mut references) = (0, std::collections::BTreeSet::new(), 0);
+        for _ in 0..600 {
+            let case = profile_case(&mut random);
+            match case.named {
+                Named::InfOfAll => all += 1,
+                Named::Number(number) => drop(others.insert((case.m, number))),
+            }
+            let case = solver_case(&mut random);
+            references += (case.reference.acceptance != inf_of_all(case.reference.sets)) as usize;
+        }
+        assert!(all > 30 && others.len() > 100, "{all} and {others:?}");
+        assert!(references > 100, "{references} of 600");
     }
 
     #[test]

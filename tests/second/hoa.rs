@@ -1,6 +1,7 @@
 //! HOA text: the tokens, the reader, the writer.
 
 use crate::automaton::*;
+use crate::formula::{written, Formula, Level};
 
 /// "text over 65,536 bytes (offset 65,536, before reading)"
 const MAX_TEXT: usize = 65_536;
@@ -145,7 +146,8 @@ pub fn read(text: &[u8]) -> Result<Automaton, Refusal> {
     let states = reader.body(&header)?;
     reader.only_blanks_follow()?;
     let table = judge_whole(text, states)?;
-    Ok(Automaton { start: header.start, sets: header.sets, names: header.names, table })
+    let Header { start, sets, acceptance, names, .. } = header;
+    Ok(Automaton { start, sets, acceptance, names, table })
 }
 
 struct Reader<'a> {
@@ -159,6 +161,7 @@ struct Header {
     start: usize,
     names: Vec<Vec<u8>>,
     sets: usize,
+    acceptance: u16,
 }
 
 /// The header while it is read.
@@ -168,7 +171,8 @@ struct Items {
     /// The number and its offset.
     start: Option<(usize, u64)>,
     names: Option<Vec<Vec<u8>>>,
-    sets: Option<usize>,
+    /// The sets and the acceptance.
+    acceptance: Option<(usize, u16)>,
 }
 
 /// Whether an edge has a label.
@@ -275,8 +279,8 @@ impl<'a> Reader<'a> {
                 items.names = Some(self.propositions()?);
             }
             b"Acceptance:" => {
-                once(items.sets.is_some())?;
-                items.sets = Some(self.acceptance()?);
+                once(items.acceptance.is_some())?;
+                items.acceptance = Some(self.acceptance()?);
             }
             _ if name[0].is_ascii_lowercase() => self.skip_item()?,
             // "any other item is refused with 1"
@@ -324,27 +328,66 @@ impl<'a> Reader<'a> {
         Ok((taken.at, name.to_vec()))
     }
 
-    /// "Acceptance is `0 t`, or the count and Inf(0)&Inf(1)&.. with each set once, ascending"
-    fn acceptance(&mut self) -> Result<usize, Refusal> {
+    /// The count of sets and the condition. What follows it is judged as behind any item: "an item
+    /// name or `--BODY--` too soon" and a stray token are refused with 1.
+    fn acceptance(&mut self) -> Result<(usize, u16), Refusal> {
         let (_, sets) = self.count(MAX_SETS)?;
-        for due in condition(sets) {
-            let taken = self.take()?;
-            self.judge_condition(taken, taken.kind == due)?;
-        }
-        let next = self.peek()?;
-        self.judge_condition(next, matches!(next.kind, Kind::Item(_) | Kind::Body))?;
-        Ok(sets)
+        let condition = self.condition(sets)?;
+        Ok((sets, condition.table(sets)))
     }
 
-    /// "after the count, the first token before the next item name that departs from this
-    /// gives 3, and so does an item name or `--BODY--` that comes too soon"; a text that ends
-    /// early is refused with 1, "at its length".
-    fn judge_condition(&self, found: Token, due: bool) -> Result<(), Refusal> {
-        match found.kind {
-            Kind::Over => Err(Refusal::at(1, found.at)),
-            _ if due => Ok(()),
-            _ => Err(Refusal::at(3, found.at)),
+    /// "read from Inf, Fin, &, |, t, f and brackets (the 32 limit applies)" (document 02, E3). `&`
+    /// binds tighter than `|`.
+    fn condition(&mut self, sets: usize) -> Result<Formula, Refusal> {
+        // The whole, and then what stands in each bracket that is open.
+        let mut open = vec![Level::new()];
+        loop {
+            let next = self.take()?;
+            if next.kind == Kind::Mark(b'(') {
+                if open.len() > MAX_NESTING {
+                    return Err(Refusal::at(2, next.at));
+                }
+                open.push(Level::new());
+                continue;
+            }
+            let mut factor = self.factor(next, sets)?;
+            while open.len() > 1 && self.take_if(Kind::Mark(b')'))? {
+                let mut level = open.pop().unwrap();
+                level.factor(factor);
+                factor = level.whole();
+            }
+            let level = open.last_mut().unwrap();
+            level.factor(factor);
+            if self.take_if(Kind::Mark(b'|'))? {
+                level.next_product();
+            } else if !self.take_if(Kind::Mark(b'&'))? {
+                return self.closed(open);
+            }
         }
+    }
+
+    /// The whole condition; a bracket that is still open asks for another token than the next.
+    fn closed(&self, mut open: Vec<Level>) -> Result<Formula, Refusal> {
+        if open.len() > 1 {
+            return Err(Refusal::at(1, self.peek()?.at));
+        }
+        Ok(open.remove(0).whole())
+    }
+
+    /// What begins with this token and is neither in brackets nor joined. "a malformed formula, or
+    /// one with !, is 1, an undeclared set 4" (document 02, E3)
+    fn factor(&mut self, first: Token, sets: usize) -> Result<Formula, Refusal> {
+        let of_set: fn(usize) -> Formula = match first.kind {
+            Kind::Word(b"t") => return Ok(Formula::Always(true)),
+            Kind::Word(b"f") => return Ok(Formula::Always(false)),
+            Kind::Word(b"Inf") => Formula::Inf,
+            Kind::Word(b"Fin") => Formula::Fin,
+            _ => return Err(Refusal::at(1, first.at)),
+        };
+        self.expect(Kind::Mark(b'('))?;
+        let (_, set) = self.declared(sets)?;
+        self.expect(Kind::Mark(b')'))?;
+        Ok(of_set(set))
     }
 
     /// "Items with a small first letter are skipped, over words, numbers and quoted texts, up
@@ -514,30 +557,17 @@ impl State {
 impl Items {
     /// "at `--BODY--` an item missing": 3; "a start (judged at `--BODY--`, after 3)": 4.
     fn judge(self, at: usize) -> Result<Header, Refusal> {
-        let (Some(states), Some((start_at, start)), Some(sets)) = (self.states, self.start, self.sets) else {
+        let (Some(states), Some((start_at, start)), Some((sets, acceptance))) =
+            (self.states, self.start, self.acceptance)
+        else {
             return Err(Refusal::at(3, at));
         };
         if start >= states as u64 {
             return Err(Refusal::at(4, start_at));
         }
         // "`AP:` at most once (absent: k = 0)"
-        Ok(Header { states, start: start as usize, names: self.names.unwrap_or_default(), sets })
+        Ok(Header { states, start: start as usize, names: self.names.unwrap_or_default(), sets, acceptance })
     }
-}
-
-/// The tokens of the one condition that is read.
-fn condition(sets: usize) -> Vec<Kind<'static>> {
-    if sets == 0 {
-        return vec![Kind::Word(b"t")];
-    }
-    let mut due = Vec::new();
-    for set in 0..sets {
-        if set > 0 {
-            due.push(Kind::Mark(b'&'));
-        }
-        due.extend([Kind::Word(b"Inf"), Kind::Mark(b'('), Kind::Number(set as u64), Kind::Mark(b')')]);
-    }
-    due
 }
 
 /// The letters in which the proposition holds: "bit i of a letter is proposition i".
@@ -573,7 +603,8 @@ pub fn write(automaton: &Automaton) -> Vec<u8> {
     line(&mut out, &format!("States: {}", automaton.states()));
     line(&mut out, &format!("Start: {}", automaton.start));
     write_names(&mut out, &automaton.names);
-    line(&mut out, &format!("Acceptance: {}", written_condition(automaton.sets)));
+    let condition = written(automaton.acceptance, automaton.sets);
+    line(&mut out, &format!("Acceptance: {} {condition}", automaton.sets));
     line(&mut out, "--BODY--");
     // "then per state ascending `State: q` and one line per letter ascending"
     for (state, row) in automaton.table.iter().enumerate() {
@@ -604,14 +635,6 @@ fn write_names(out: &mut Vec<u8>, names: &[Vec<u8>]) {
         out.push(b'"');
     }
     out.push(b'\n');
-}
-
-fn written_condition(sets: usize) -> String {
-    if sets == 0 {
-        return "0 t".to_string();
-    }
-    let parts: Vec<String> = (0..sets).map(|set| format!("Inf({set})")).collect();
-    format!("{sets} {}", parts.join("&"))
 }
 
 /// "label in full as `[!0&1]` (k = 0: `[t]`)"
@@ -728,32 +751,162 @@ mod tests {
         assert!(read(text.as_bytes()).is_ok());
     }
 
+    /// The sets and the acceptance of a condition, with its count.
+    fn acceptance(condition: &str) -> (usize, u16) {
+        let read = read(one_state(0, condition, "[t] 0").as_bytes()).expect("the condition should be read");
+        (read.sets, read.acceptance)
+    }
+
     #[test]
-    fn acceptance_that_departs() {
-        for (acceptance, departs) in [
-            ("0 f", "f --B"),
-            ("0 t & t", "& t"),
+    fn conditions_as_tools_write_them() {
+        assert_eq!(acceptance("0 t"), (0, 0b1));
+        assert_eq!(acceptance("0 f"), (0, 0b0));
+        assert_eq!(acceptance("1 Inf(0)"), (1, 0b10));
+        assert_eq!(acceptance("1 Fin(0)"), (1, 0b01));
+        assert_eq!(acceptance("1 t"), (1, 0b11));
+        assert_eq!(acceptance("2 (Fin(0) & Inf(1))"), (2, 0b0100));
+        assert_eq!(acceptance("2 (Fin(0) | Inf(1))"), (2, 0b1101));
+        assert_eq!(acceptance("3 (Fin(0)&Inf(1)&Inf(2))"), (3, 0b0100_0000));
+        // Rabin and Streett with two pairs: {1} {1 2} {3} {0 3} {1 3} {0 1 3} {1 2 3}, and nine of the 16.
+        assert_eq!(acceptance("4 (Fin(0) & Inf(1)) | (Fin(2) & Inf(3))"), (4, 0b0100_1111_0100_0100));
+        assert_eq!(acceptance("4 (Fin(0) | Inf(1)) & (Fin(2) | Inf(3))"), (4, 0b1101_1101_0000_1101));
+        // Parity of three, the highest or the lowest that is met being even or odd.
+        assert_eq!(acceptance("3 Inf(2) | (Fin(1) & Inf(0))"), (3, 0b1111_0010));
+        assert_eq!(acceptance("3 Fin(2) & (Inf(1) | Fin(0))"), (3, 0b0000_1101));
+        assert_eq!(acceptance("3 Inf(0) | (Fin(1) & Inf(2))"), (3, 0b1011_1010));
+        assert_eq!(acceptance("3 Fin(0) & (Inf(1) | Fin(2))"), (3, 0b0100_0101));
+    }
+
+    #[test]
+    fn conditions_bind_in_order() {
+        assert_eq!(acceptance("2 t | f & f"), (2, 0b1111));
+        assert_eq!(acceptance("2 f & f | t"), (2, 0b1111));
+        assert_eq!(acceptance("2 (t | f) & f"), (2, 0));
+        assert_eq!(acceptance("2 Inf(0) | Inf(1) & Fin(0)"), (2, 0b1110));
+        assert_eq!(acceptance("2 (Inf(0) | Inf(1)) & Fin(0)"), (2, 0b0100));
+        assert_eq!(acceptance("2 Fin(0) & Inf(1) | Inf(0) & Fin(1)"), (2, 0b0110));
+        // Inf of all in other words, with and without blanks.
+        for condition in [
+            "2 Inf(1)&Inf(0)", "2Inf(0)&Inf(1)&Inf(0)", "2((Inf(1)))&(Inf(0))", "2 Inf\t(\n0 ) & Inf ( 1)",
+            "2 t&Inf(0)&Inf(1)", "2 Inf(0)&Inf(1)|f", "2 (Inf(0)|Inf(1)&f)&Inf(1)",
+        ] {
+            assert_eq!(acceptance(condition), (2, 0b1000), "{condition}");
+        }
+        let text = one_state(0, "2 Inf(1)&Inf(0)", "[t] 0");
+        let written = String::from_utf8(write(&read(text.as_bytes()).unwrap())).unwrap();
+        assert!(written.contains("\nAcceptance: 2 Inf(0)&Inf(1)\n"), "{written}");
+    }
+
+    #[test]
+    fn written_conditions_read_back() {
+        for sets in 0..=4 {
+            for table in 0..=(1u32 << (1 << sets)) - 1 {
+                if sets < 4 || table % 61 == 0 || table == 0xffff || table == 0x8000 {
+                    let condition = format!("{sets} {}", written(table as u16, sets));
+                    assert_eq!(acceptance(&condition), (sets, table as u16), "{condition}");
+                }
+            }
+        }
+    }
+
+    #[test]
+    fn brackets_of_a_condition_to_the_limit() {
+        let deep =
+            |depth: usize| one_state(0, &format!("1 {}Fin(0){}", "(".repeat(depth), ")".repeat(depth)), "[t] 0");
+        // The bracket of `Fin(` does not count.
+        assert_eq!(read(deep(32).as_bytes()).unwrap().acceptance, 0b01);
+        let text = deep(33);
+        assert_eq!(refused(&text), (2, place(&text, "(Fin", 0), 0));
+        let text = deep(40);
+        assert_eq!(refused(&text), (2, place(&text, "(", 0) + 32, 0));
+        // Closed ones no longer count, and one too many where a sign is due is no nesting.
+        assert_eq!(acceptance(&format!("1 {}f", "(Inf(0))|((t))&".repeat(40))), (1, 0b10));
+        let text = one_state(0, &format!("1 {}t (", "(".repeat(32)), "[t] 0");
+        assert_eq!(refused(&text), (1, place(&text, "t (", 0) + 2, 0));
+    }
+
+    /// Asserts that a text with this condition is refused with the number where `part` stands.
+    fn refuses(number: u8, condition: &str, part: &str) {
+        let text = one_state(0, condition, "[t] 0");
+        assert_eq!(refused(&text), (number, place(&text, part, 0), 0), "{condition}");
+    }
+
+    #[test]
+    fn malformed_conditions() {
+        for (condition, part) in [
             ("0 --BODY--", "--BODY--"),
             ("1 Inf(00)", "00"),
-            ("1 Inf(0)&Inf(0)", "&"),
-            ("2 Inf(1)&Inf(0)", "1)&"),
-            ("2 Inf(0)|Inf(1)", "|"),
-            ("2 Inf(0) name: \"x\"", "name:"),
-            ("1 Fin(0)", "Fin"),
-            ("1 Inf(0) @a", "@a"),
-            ("1 Inf(0) --ABORT--", "--ABORT--"),
+            ("1 Inf(0) & --BODY--", "--BODY--"),
+            ("2 Inf(0) | name: \"x\"", "name:"),
+            ("1 (Inf(0)", "--BODY--"),
+            ("1 (Inf(0) name: \"x\"", "name:"),
+            ("1 Inf(0))", ") --BODY"),
+            ("1 ()", ")"),
+            ("1 (& t)", "&"),
+            ("1 | t", "|"),
+            ("1 t & | t", "| t"),
+            ("1 t t", "t --B"),
+            ("0 t 0", "0 --B"),
+            ("1 Inf(0) Fin(0)", "Fin"),
+            ("1 (t) t", "t --B"),
+            ("1 (t) (t)", "(t) --B"),
+            ("1 Inf 0", "0 --B"),
+            ("1 Inf", "--BODY--"),
+            ("1 Inf(", "--BODY--"),
+            ("1 Inf(0", "--BODY--"),
+            ("1 Inf()", ")"),
+            ("1 Inf((0))", "(0)"),
+            ("1 Inf(0 0)", "0) --B"),
+            ("1 Inf(t)", "t) --B"),
+            ("1 !Inf(0)", "!"),
+            ("1 Inf(!0)", "!0"),
+            ("1 Inf(0) & !Fin(0)", "!"),
+            ("1 0", "0 --B"),
+            ("1 inf(0)", "inf"),
+            ("1 tInf(0)", "tInf"),
+            ("1 t-", "t- "),
+            ("1 Inf-x(0)", "Inf-x"),
+            ("1 Inf0", "Inf0"),
+            ("1 Inf:(0)", "Inf:"),
             ("0 t--BODY--", "t--BODY--"),
+            ("1 Inf(0)@a", "@a"),
+            ("1 Inf(0) --ABORT--", "--ABORT--"),
+            ("1 Inf(0) --END--", "--END--"),
+            ("1 Inf(0) [t]", "[t] --B"),
+            ("1 Inf(0) \"x\"", "\"x\""),
+            ("1 Inf(0) {0}", "{"),
+            ("1 Inf(0) $", "$"),
+            ("1 Inf(/* 0 */)", "/*"),
+            ("t", "t --B"),
+            ("00 t", "00 t"),
+            ("01 Inf(0)", "01"),
+            ("--BODY--", "--BODY--"),
         ] {
-            let text = one_state(0, acceptance, "[t] 0");
-            assert_eq!(refused(&text), (3, place(&text, departs, 0), 0), "{acceptance}");
+            refuses(1, condition, part);
         }
-        let text = one_state(0, "5 t", "[t] 0");
-        assert_eq!(refused(&text), (2, place(&text, "5 t", 0), 0));
-        let text = one_state(0, "00 t", "[t] 0");
-        assert_eq!(refused(&text), (1, place(&text, "00 t", 0), 0));
-        let text = one_state(0, "1 Inf(0) $", "[t] 0");
-        assert_eq!(refused(&text), (1, place(&text, "$", 0), 0));
         assert_eq!(refused("HOA: v1 Acceptance: 1 Inf("), (1, 26, 0));
+        assert_eq!(refused("HOA: v1 Acceptance: 1 Inf(0) &\n"), (1, 31, 0));
+        assert_eq!(refused("HOA: v1 Acceptance: 1 (t"), (1, 24, 0));
+        assert_eq!(refused("HOA: v1 Acceptance: 1 t"), (1, 23, 0));
+        assert_eq!(refused("HOA: v1 Acceptance: 1 "), (1, 22, 0));
+        assert_eq!(refused("HOA: v1 Acceptance: 1 \"t"), (1, 24, 0));
+    }
+
+    #[test]
+    fn sets_of_a_condition_that_are_not_declared() {
+        refuses(4, "0 Inf(0)", "0) --B");
+        refuses(4, "1 Fin(1)", "1) --B");
+        refuses(4, "2 Inf(0)&Inf(1)&Inf(2)", "2) --B");
+        refuses(4, "4 Inf(4)", "4) --B");
+        refuses(4, "1 Inf(99999999999999999999)", "9999");
+        // From left to right.
+        refuses(4, "1 Inf(1 $", "1 $");
+        refuses(4, "1 Inf(1) & !", "1) &");
+        refuses(1, "1 ! Inf(1)", "!");
+        refuses(2, "5 Inf(5)", "5 Inf");
+        refuses(2, "99999999999999999999 t", "9999");
+        // The whole header is read before a start is judged, and another item twice is 3 as before.
+        refuses(3, "1 Inf(0) Acceptance: $", "Acceptance: $");
     }
 
     #[test]

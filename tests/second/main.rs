@@ -7,9 +7,11 @@
 //!     check FIRST SECOND PRINTED
 //!     decode REFERENCE N M < SOLVER-OUTPUT
 //!     check-decode REFERENCE N M PRINTED < SOLVER-OUTPUT
+//!     profile clauses N M 1 ACCEPTANCE transitions < REFERENCE
+//!     profile decode REFERENCE N M 1 ACCEPTANCE transitions < SOLVER-OUTPUT
 //!     search REFERENCE [ANSWER-FILE ..]
 //!     check-search REFERENCE PRINTED [ANSWER-FILE ..]
-//!     generate hoa|pairs|solver|search SEED COUNT DIRECTORY
+//!     generate hoa|pairs|solver|profile|search SEED COUNT DIRECTORY
 //!     against PROGRAMS SEED COUNT DIRECTORY
 //!
 //! A refusal is one line `refused NUMBER A B` on standard output. The three `check` calls read
@@ -22,7 +24,10 @@ mod check;
 mod clauses;
 mod compare;
 mod decode;
+mod formula;
 mod generate;
+mod generate_acceptance;
+mod generate_formula;
 mod generate_hoa;
 mod generate_solver;
 mod hoa;
@@ -32,7 +37,7 @@ mod search;
 mod solver;
 mod word;
 
-use automaton::{judge_sizes, Automaton, Refusal};
+use automaton::{Automaton, Candidates, Named, Refusal};
 use printed::{comparison_text, decoded_text, refusal_text, search_text};
 use std::io::{self, BufWriter, Read, Write};
 use std::{env, fs, process};
@@ -57,10 +62,14 @@ fn main() {
     let words: Vec<&str> = arguments.iter().map(String::as_str).collect();
     let printed = match words[..] {
         ["normalize"] => normalize(),
-        ["clauses", n, m] => print_clauses(n, m),
+        ["clauses", n, m] => print_clauses(n, m, "all"),
+        ["profile", "clauses", n, m, "1", acceptance, "transitions"] => print_clauses(n, m, acceptance),
         ["compare", first, second] => compare_files(first, second),
         ["check", first, second, printed] => check_compare(first, second, printed),
-        ["decode", reference, n, m] => decode_input(reference, n, m),
+        ["decode", reference, n, m] => decode_input(reference, n, m, "all"),
+        ["profile", "decode", reference, n, m, "1", acceptance, "transitions"] => {
+            decode_input(reference, n, m, acceptance)
+        }
         ["check-decode", reference, n, m, printed] => check_decode(reference, n, m, printed),
         ["search", reference, ref answers @ ..] => search_answers(reference, answers),
         ["check-search", reference, printed, ref answers @ ..] => check_search(reference, printed, answers),
@@ -105,6 +114,14 @@ fn number(word: &str) -> Result<u64, Problem> {
     value.ok_or_else(|| Problem::Unusable(format!("{word} is no number")))
 }
 
+/// `all`, or the number whose bit M is the answer for the set of marks M.
+fn acceptance(word: &str) -> Result<Named, Problem> {
+    match word {
+        "all" => Ok(Named::InfOfAll),
+        _ => Ok(Named::Number(number(word)?)),
+    }
+}
+
 fn automaton(name: &str) -> Result<Automaton, Problem> {
     Ok(hoa::read(&file(name)?)?)
 }
@@ -116,13 +133,13 @@ fn normalize() -> Printed {
     Ok(hoa::write(&hoa::read(&input()?)?))
 }
 
-fn print_clauses(n: &str, m: &str) -> Printed {
-    let (n, m) = (number(n)?, number(m)?);
+fn print_clauses(n: &str, m: &str, named: &str) -> Printed {
+    let (n, m, named) = (number(n)?, number(m)?, acceptance(named)?);
     let reference = hoa::read(&input()?)?;
-    let (n, m) = judge_sizes(n, m)?;
+    let of = Candidates::judged(n, m, named)?;
     let mut out = BufWriter::with_capacity(1 << 16, io::stdout().lock());
     // A reader that has gone away needs nothing more.
-    let _ = clauses::File::new(&reference, n, m).print(&mut out).and_then(|()| out.flush());
+    let _ = clauses::File::new(&reference, of).print(&mut out).and_then(|()| out.flush());
     Ok(Vec::new())
 }
 
@@ -132,9 +149,9 @@ fn compare_files(first: &str, second: &str) -> Printed {
     Ok(comparison_text(&comparison).into_bytes())
 }
 
-fn decode_input(reference: &str, n: &str, m: &str) -> Printed {
-    let (n, m) = (number(n)?, number(m)?);
-    Ok(decoded_text(&decode::decode(&automaton(reference)?, n, m, io::stdin().lock())?))
+fn decode_input(reference: &str, n: &str, m: &str, named: &str) -> Printed {
+    let (n, m, named) = (number(n)?, number(m)?, acceptance(named)?);
+    Ok(decoded_text(&decode::decode(&automaton(reference)?, n, m, named, io::stdin().lock())?))
 }
 
 fn search_answers(reference: &str, answers: &[&str]) -> Printed {
@@ -169,7 +186,7 @@ fn check_compare(first: &str, second: &str, printed: &str) -> Printed {
 
 fn check_decode(reference: &str, n: &str, m: &str, printed: &str) -> Printed {
     let (n, m) = (number(n)?, number(m)?);
-    verdict(check::check_decode(&file(reference)?, n, m, &input()?, &file(printed)?))
+    verdict(check::check_decode(&file(reference)?, n, m, Named::InfOfAll, &input()?, &file(printed)?))
 }
 
 fn check_search(reference: &str, printed: &str, answers: &[&str]) -> Printed {

@@ -12,9 +12,9 @@ pub struct Edge {
 
 pub struct Product {
     pub start: usize,
-    pub all_marks: [u8; 2],
-    pub sets: [usize; 2],
     pub edges: Vec<Vec<Edge>>,
+    /// The sets of marks, one of each automaton, of which exactly one automaton takes its own.
+    pub differing: Vec<[u8; 2]>,
 }
 
 impl Product {
@@ -30,12 +30,7 @@ impl Product {
                 edges.push((0..first.letters()).map(edge).collect());
             }
         }
-        Product {
-            start: pair(first.start, second.start),
-            all_marks: [first.all_marks(), second.all_marks()],
-            sets: [first.sets, second.sets],
-            edges,
-        }
+        Product { start: pair(first.start, second.start), edges, differing: differing(first, second) }
     }
 
     pub fn reached(&self) -> Vec<bool> {
@@ -48,4 +43,9 @@ impl Product {
         }
         reached
     }
+}
+
+fn differing(first: &Automaton, second: &Automaton) -> Vec<[u8; 2]> {
+    let both = (0..=first.all_marks()).flat_map(|one| (0..=second.all_marks()).map(move |other| [one, other]));
+    both.filter(|&[one, other]| first.takes(one) != second.takes(other)).collect()
 }

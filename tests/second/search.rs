@@ -27,7 +27,7 @@ impl<'a> Search<'a> {
         if self.finished {
             return Ok(());
         }
-        match decode(self.reference, self.n as u64, self.m as u64, text)? {
+        match decode(self.reference, self.n as u64, self.m as u64, Named::InfOfAll, text)? {
             Decoded::Table(table) => self.found(table),
             Decoded::None => self.none(),
             Decoded::Unknown => self.unknown(),
@@ -37,7 +37,7 @@ impl<'a> Search<'a> {
     }
 
     /// "Found: best changes, n falls by one; at 0 it finishes." The table comes from the decoder,
-    /// so it has n states and m sets and was compared with the reference.
+    /// so it has n states, m sets and Inf of all of them, and was compared with the reference.
     fn found(&mut self, table: Automaton) {
         self.best = table;
         self.n -= 1;
@@ -73,7 +73,7 @@ mod tests {
     fn round(states: usize, sets: usize) -> Automaton {
         let marks = all_marks(sets);
         let table = (0..states).map(|q| vec![Transition { to: (q + 1) % states, marks }]).collect();
-        Automaton { start: 0, sets, names: vec![], table }
+        Automaton { start: 0, sets, acceptance: inf_of_all(sets), names: vec![], table }
     }
 
     /// The answer that states `round(n, m)`, for L = 1.
@@ -175,6 +175,22 @@ mod tests {
         assert_eq!(asked(&search), (3, 3, false, false));
         search.answer(&says_round(3, 3)).unwrap();
         assert_eq!(asked(&search), (2, 3, false, false));
+    }
+
+    /// "search and clause program use Inf of all" (document 02, E3), whatever the reference carries.
+    #[test]
+    fn a_reference_with_another_acceptance() {
+        let reference = Automaton { acceptance: 0b11, ..round(3, 1) };
+        let mut search = Search::new(&reference);
+        assert_eq!(asked(&search), (2, 1, false, false));
+        search.answer(&says_round(2, 1)).unwrap();
+        assert_eq!(search.best, round(2, 1));
+        let reference = Automaton { acceptance: 0b01, ..round(3, 1) };
+        let mut search = Search::new(&reference);
+        assert_eq!(search.answer(&says_round(2, 1)).unwrap_err().number, 12);
+        // The steps alone: no set is met, and Inf of all accepts nothing either.
+        search.answer(b"s SATISFIABLE\nv 2 3 0\n").unwrap();
+        assert_eq!((search.best.states(), search.best.acceptance), (2, 0b10));
     }
 
     #[test]

@@ -1,9 +1,9 @@
 //! 12's word, as document 02 chooses it: by layers backward from where a loop must end.
 //!
-//! A closed walk of the product shows a difference if it meets every set of the one automaton and
-//! keeps off some set of the other. For each such aim, a one and a set of the other, the letters
-//! that are left to it are counted backward, layer by layer, for every pair and set of marks met;
-//! then the word is read off letter by letter, the smallest letter that still keeps to the count.
+//! A closed walk of the product shows a difference if exactly one automaton takes the marks it has
+//! met. From a pair with such marks the walk is followed backward, layer by layer: each layer has,
+//! for every pair, the sets of marks met with which so many letters are left. Then the word is read
+//! off letter by letter, the smallest letter that leads into the next layer.
 
 use crate::automaton::Refusal;
 use crate::product::{Edge, Product};
@@ -58,32 +58,67 @@ pub fn first_word(product: &Product) -> Option<Word> {
     best
 }
 
+/// A set of sets of marks met in both automata: one bit for each of the 256, the upper half for
+/// those with set 3 of the second.
+#[derive(Clone, Copy, PartialEq, Default)]
+struct Met([u128; 2]);
+
+/// Of the 128 sets of marks in one half, those that have a set.
+const HAVING: [u128; 7] = having();
+
+const fn having() -> [u128; 7] {
+    let mut having = [0; 7];
+    let mut place = 0;
+    while place < 7 * 128 {
+        let (set, marks) = (place / 128, place % 128);
+        having[set] |= ((marks >> set & 1) as u128) << marks;
+        place += 1;
+    }
+    having
+}
+
+/// The marks of both automata as one number.
+fn joined(marks: [u8; 2]) -> u8 {
+    marks[0] | marks[1] << 4
+}
+
+impl Met {
+    fn insert(&mut self, marks: u8) {
+        self.0[marks as usize >> 7] |= 1 << (marks & 127);
+    }
+
+    fn has(&self, marks: u8) -> bool {
+        self.0[marks as usize >> 7] >> (marks & 127) & 1 == 1
+    }
+
+    /// Those that with these marks besides are in here.
+    fn before(self, marks: u8) -> Met {
+        let mut halves = self.0;
+        for (set, having) in HAVING.iter().enumerate().filter(|(set, _)| marks >> set & 1 == 1) {
+            halves = halves.map(|half| half & having).map(|half| half | half >> (1 << set));
+        }
+        if marks >> 7 & 1 == 1 {
+            halves[0] = halves[1];
+        }
+        Met(halves)
+    }
+
+    fn joined(self, other: Met) -> Met {
+        Met([self.0[0] | other.0[0], self.0[1] | other.0[1]])
+    }
+
+    fn without(self, other: Met) -> Met {
+        Met([self.0[0] & !other.0[0], self.0[1] & !other.0[1]])
+    }
+}
+
+/// For each pair, the marks met with which just so many letters are left: first 0, then 1, ..
+type Layers = Vec<Vec<Met>>;
+
 /// A product, and the transitions that lead to each pair.
 struct Steps<'a> {
     product: &'a Product,
     before: Vec<Vec<(usize, Edge)>>,
-}
-
-/// How many letters are left to an aim, from a pair and the marks met of the one.
-struct Aim {
-    one: usize,
-    other: usize,
-    set: usize,
-    left: Vec<[Option<usize>; 16]>,
-}
-
-impl Aim {
-    /// Whether a transition keeps off the set of the other.
-    fn allows(&self, edge: &Edge) -> bool {
-        edge.marks[self.other] >> self.set & 1 == 0
-    }
-
-    /// The letters left behind a transition that is taken with these marks met, and the marks then.
-    fn behind(&self, edge: &Edge, met: u8) -> Option<(usize, u8)> {
-        let met = met | edge.marks[self.one];
-        let left = if self.allows(edge) { self.left[edge.to][met as usize] } else { None };
-        left.map(|left| (left, met))
-    }
 }
 
 impl Steps<'_> {
@@ -136,60 +171,54 @@ impl Steps<'_> {
     /// The smallest of the shortest loops at a pair that show a difference, if they have at most
     /// this many letters.
     fn first_loop(&self, pair: usize, most: usize) -> Option<Vec<u8>> {
-        let aims: Vec<Aim> = [0, 1]
-            .into_iter()
-            .flat_map(|one| (0..self.product.sets[1 - one]).map(move |set| (one, set)))
-            .map(|(one, set)| self.aim(one, set, pair, most))
-            .collect();
-        let edges = |pair: usize| self.product.edges[pair].iter();
-        let behind = |edge: &Edge| aims.iter().filter_map(|aim| aim.behind(edge, 0)).map(|(left, _)| left).min();
-        let least = edges(pair).filter_map(behind).min()? + 1;
-        if least > most {
-            return None;
-        }
-        let mut here = pair;
-        let mut met = vec![Some(0); aims.len()];
+        let layers = self.layers(pair, most);
+        let first = |left: &usize| self.into_layer(&layers[*left], pair, 0).is_some();
+        let least = (0..layers.len()).find(first)? + 1;
+        let (mut here, mut met) = (pair, 0);
         let mut word = Vec::new();
         for left in (0..least).rev() {
-            // The marks met in each aim that a transition keeps to.
-            let kept = |edge: &Edge| -> Vec<Option<u8>> {
-                let behind = |(aim, met): (&Aim, &Option<u8>)| aim.behind(edge, (*met)?).filter(|on| on.0 == left);
-                aims.iter().zip(&met).map(behind).map(|on| on.map(|on| on.1)).collect()
-            };
-            let kept = |edge| (edge, kept(edge));
-            let (edge, next) = edges(here).map(kept).find(|(_, kept)| kept.iter().any(Option::is_some)).unwrap();
+            let edge = self.into_layer(&layers[left], here, met).expect("a letter leads on");
             word.push(edge.letter);
             here = edge.to;
-            met = next;
+            met |= joined(edge.marks);
         }
         Some(word)
     }
 
-    /// Backward from the pair with all sets of the one met, by transitions that keep off the set of
-    /// the other: layer after layer, for at most this many letters.
-    fn aim(&self, one: usize, set: usize, pair: usize, most: usize) -> Aim {
-        let mut aim = Aim { one, other: 1 - one, set, left: vec![[None; 16]; self.before.len()] };
-        let mut layer = vec![(pair, self.product.all_marks[one])];
-        let mut count = 0;
-        while !layer.is_empty() && count < most {
-            let mut next = Vec::new();
-            for (to, met) in layer {
-                if aim.left[to][met as usize].is_some() {
-                    continue;
-                }
-                aim.left[to][met as usize] = Some(count);
-                for (from, edge) in self.before[to].iter().filter(|(_, edge)| aim.allows(edge)) {
-                    let marks = edge.marks[one];
-                    if marks & !met == 0 {
-                        let earlier = (0..16u8).filter(|part| part & !marks == 0).map(|part| met & !marks | part);
-                        next.extend(earlier.map(|met| (*from, met)));
-                    }
-                }
+    /// The transition by the smallest letter that leads into the layer.
+    fn into_layer(&self, layer: &[Met], from: usize, met: u8) -> Option<&Edge> {
+        self.product.edges[from].iter().find(|edge| layer[edge.to].has(met | joined(edge.marks)))
+    }
+
+    /// Backward from the pair with marks that show a difference, for less than this many letters.
+    fn layers(&self, pair: usize, most: usize) -> Layers {
+        let mut first = vec![Met::default(); self.before.len()];
+        self.product.differing.iter().for_each(|&marks| first[pair].insert(joined(marks)));
+        let mut seen = first.clone();
+        let mut layers = vec![first];
+        while layers.len() < most {
+            let next = self.earlier(layers.last().unwrap(), &mut seen);
+            if next.iter().all(|met| *met == Met::default()) {
+                break;
             }
-            layer = next;
-            count += 1;
+            layers.push(next);
         }
-        aim
+        layers
+    }
+
+    /// What leads into the layer by one letter and was not seen before; it is then seen.
+    fn earlier(&self, layer: &[Met], seen: &mut [Met]) -> Vec<Met> {
+        let mut earlier = vec![Met::default(); layer.len()];
+        for (to, met) in layer.iter().enumerate().filter(|(_, met)| **met != Met::default()) {
+            for (from, edge) in &self.before[to] {
+                earlier[*from] = earlier[*from].joined(met.before(joined(edge.marks)));
+            }
+        }
+        for (earlier, seen) in earlier.iter_mut().zip(seen) {
+            *earlier = earlier.without(*seen);
+            *seen = seen.joined(*earlier);
+        }
+        earlier
     }
 }
 
@@ -197,7 +226,7 @@ impl Steps<'_> {
 mod tests {
     use super::*;
     use crate::automaton::Automaton;
-    use crate::generate::{nearly, random_automaton, with_copies, Random};
+    use crate::generate::{any_automaton, in_other_words, nearly, with_copies, Random};
 
     /// Whether the word differs and its loop, read once, brings both automata back to where it began.
     fn shows(first: &Automaton, second: &Automaton, prefix: &[u8], cycle: &[u8]) -> bool {
@@ -230,11 +259,15 @@ mod tests {
     fn first_of_all_words() {
         let mut random = Random::new(17);
         let mut lengths = std::collections::BTreeMap::new();
-        for _ in 0..2_000 {
+        for _ in 0..6_000 {
             let (k, sets, states) = (random.within(0, 1), random.within(0, 2), random.within(1, 3));
-            let first = random_automaton(&mut random, states, k, sets);
+            let first = any_automaton(&mut random, states, k, sets);
             let (copied, _) = with_copies(&mut random, &first, states + 1);
-            let second = nearly(&mut random, &copied);
+            let more = sets + random.below(2);
+            let mut second = in_other_words(&mut random, &copied, more);
+            for _ in 0..random.within(1, 3) {
+                second = nearly(&mut random, &second);
+            }
             let found = first_word(&Product::new(&first, &second));
             let most = found.as_ref().map_or(6, |word| word.prefix.len() + word.cycle.len());
             if most > 12 {

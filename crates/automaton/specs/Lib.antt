@@ -1,7 +1,6 @@
 pub mod Value
 pub mod Rows
 pub mod Letters
-pub mod Acceptance
 pub mod View
 pub mod ViewLaws
 pub mod Bytes

@@ -2,18 +2,19 @@
 use mathlib.Core.Path.{_≡_, refl, sym, _∙_, subst, subst₂}
 use mathlib.Core.Bool.{true, false, _&&_, true≢false}
 use mathlib.Core.Logic.{_≢_, _⊎_, inl, inr}
-use Prim.Native.Nat.{ℕ, _-_, _^_, _≤_, _<_, min}
+use Prim.Native.Nat.{ℕ, _^_, _≤_, _<_, min}
 use native.Mathlib.Decide.{decLt}
 use native.Mathlib.Omega.{arith}
-use borrow.Author.Tests.{le-leb, lt-ltb, eq-eqb, leb-true, ltb-true, eqb-true}
+use borrow.Author.Tests.{le-leb, lt-ltb, leb-true, ltb-true}
 use lib.Dec.{leb, ltb}
 use lib.ListN.{length}
 use Rattle.meaning.specs.TestLaws.{and-true, and-left, and-right, truth}
+use Rattle.acceptance.specs.Masks.{OwnSets, ownSets}
+use Rattle.acceptance.specs.Laws.{own-means}
 use Rattle.automaton.specs.declared.Automaton.{Automaton}
 use Rattle.automaton.specs.Value.{Valid, letters, nameLength, nameByte}
 use Rattle.bits.specs.Powers.{power-is, power-le}
-use Rattle.automaton.specs.Acceptance.{every-set-is}
-use Rattle.automaton.specs.Tests.{countsFit, acceptanceFits, filled, tablesFit, lengthsFit, bytesFit, alike, apart, named, fits}
+use Rattle.automaton.specs.Tests.{countsFit, filled, tablesFit, lengthsFit, bytesFit, alike, apart, named, fits}
 use Rattle.automaton.specs.TableTest.{filled-below, filled-zero, filled-of}
 use Rattle.automaton.specs.NameTest.{length-some, length-le, length-zero, lengths-of, byte-means, byte-zero, bytes-of, apart-at, apart-of, equal-alike, alike-equal}
 
@@ -24,7 +25,7 @@ module _ (a : Automaton) where
     start-lt : a .start < a .states
     propositions-le : a .propositions ≤ 4
     sets-le : a .sets ≤ 4
-    acceptance-is : a .acceptance ≡ 2 ^ (2 ^ a .sets - 1)
+    own-sets : OwnSets (a .acceptance) (a .sets)
     destinations : filled (a .states) (letters a) (a .states) (a .destinations) ≡ true
     marks : filled (a .states) (letters a) (2 ^ a .sets) (a .marks) ≡ true
     lengths : lengthsFit (a .lengths) (a .propositions) ≡ true
@@ -35,7 +36,7 @@ module _ (a : Automaton) where
   unfolding fits
   passed h =
       let N = named (a .names) (a .lengths) (a .propositions) in
-      let A = acceptanceFits (a .acceptance) (a .sets) in
+      let A = ownSets (a .acceptance) (a .sets) in
       let counts = and-left (countsFit (a .states) (a .start) (a .propositions) (a .sets)) (A && (tablesFit a && N)) h in
       let others = and-right (countsFit (a .states) (a .start) (a .propositions) (a .sets)) (A && (tablesFit a && N)) h in
       let rest = and-right A (tablesFit a && N) others in
@@ -53,7 +54,7 @@ module _ (a : Automaton) where
         start-lt = ltb-true _ _ (and-left (ltb (a .start) (a .states)) (leb (a .propositions) 4 && leb (a .sets) 4) c₁);
         propositions-le = k;
         sets-le = m;
-        acceptance-is = every-set-is m (eqb-true _ _ (and-left A (tablesFit a && N) others));
+        own-sets = own-means m (a .acceptance) .0 (and-left A (tablesFit a && N) others);
         destinations = subst (λ L. filled (a .states) L (a .states) (a .destinations) ≡ true) (power-is k refl) (and-left D M tables);
         marks = subst₂ (λ L c. filled (a .states) L c (a .marks) ≡ true) (power-is k refl) (power-is m refl) (and-right D M tables);
         lengths = and-left (lengthsFit (a .lengths) (a .propositions)) (bytesFit (a .names) (a .lengths) && apart (a .names) (a .propositions)) names;
@@ -65,7 +66,7 @@ module _ (a : Automaton) where
   unfolding fits
   passing P = and-true
       (and-true (le-leb _ _ (P .states-le)) (and-true (lt-ltb _ _ (P .start-lt)) (and-true (le-leb _ _ (P .propositions-le)) (le-leb _ _ (P .sets-le)))))
-      (and-true (eq-eqb _ _ (P .acceptance-is ∙ sym (every-set-is (P .sets-le) refl))) (and-true (and-true
+      (and-true (own-means (P .sets-le) (a .acceptance) .1 (P .own-sets)) (and-true (and-true
       (subst (λ L. filled (a .states) L (a .states) (a .destinations) ≡ true) (sym (power-is (P .propositions-le) refl)) (P .destinations))
       (subst₂ (λ L c. filled (a .states) L c (a .marks) ≡ true) (sym (power-is (P .propositions-le) refl)) (sym (power-is (P .sets-le) refl)) (P .marks)))
       (and-true (P .lengths) (and-true (P .bytes) (P .pairs)))))
@@ -76,7 +77,7 @@ module _ (a : Automaton) where
     start-lt = P .start-lt;
     propositions-le = P .propositions-le;
     sets-le = P .sets-le;
-    acceptance-is = P .acceptance-is;
+    own-sets = P .own-sets;
     destination-lt = filled-below (a .states) (letters a) (a .states) (a .destinations) (P .destinations) (P .states-le) most;
     marks-lt = filled-below (a .states) (letters a) (2 ^ a .sets) (a .marks) (P .marks) (P .states-le) most;
     name-some = λ i hi. length-some (a .propositions) (a .lengths) (P .lengths) i (omega (arith, P .propositions-le)) hi;
@@ -112,7 +113,7 @@ module _ (a : Automaton) where
     start-lt = v .start-lt;
     propositions-le = v .propositions-le;
     sets-le = v .sets-le;
-    acceptance-is = v .acceptance-is;
+    own-sets = v .own-sets;
     destinations = filled-of (a .states) (letters a) (a .states) (a .destinations) (v .destination-lt) (v .no-destination);
     marks = filled-of (a .states) (letters a) (2 ^ a .sets) (a .marks) (v .marks-lt) (v .no-marks);
     lengths = lengths-of (a .propositions) (a .lengths) (v .name-some) (v .name-le) (v .no-length);

@@ -5,8 +5,9 @@ use Prim.Native.Nat.{ℕ, _+_, _*_, _/_, _%_, _^_, min}
 use lib.Dec.{ltb, leb, eqb}
 use lib.ListN.{getD}
 use Rattle.meaning.specs.Tests.{all}
+use Rattle.acceptance.specs.Masks.{ownSets}
 use Rattle.automaton.specs.declared.Automaton.{Automaton}
-use Rattle.automaton.specs.Value.{printable, everySet}
+use Rattle.automaton.specs.Value.{printable}
 
 -- p holds of every number below n
 unfoldable pub passes : ℕ → (ℕ → Bool) → Bool
@@ -14,9 +15,6 @@ passes n p = all n p
 
 abbrev pub countsFit : ℕ → ℕ → ℕ → ℕ → Bool
 countsFit states start propositions sets = leb states 16 && (ltb start states && (leb propositions 4 && leb sets 4))
-
-abbrev pub acceptanceFits : ℕ → ℕ → Bool
-acceptanceFits acceptance sets = eqb acceptance (everySet sets)
 
 -- the entry v at i: below c for a state below n and a letter below L, 0 elsewhere
 abbrev pub entryFits : ℕ → ℕ → ℕ → ℕ → ℕ → Bool
@@ -58,4 +56,4 @@ tablesFit a =
 unfoldable pub fits : Automaton → Bool
 fits a =
     countsFit (a .states) (a .start) (a .propositions) (a .sets)
-    && (acceptanceFits (a .acceptance) (a .sets) && (tablesFit a && named (a .names) (a .lengths) (a .propositions)))
+    && (ownSets (a .acceptance) (a .sets) && (tablesFit a && named (a .names) (a .lengths) (a .propositions)))

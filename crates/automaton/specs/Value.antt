@@ -3,10 +3,11 @@ use mathlib.Core.Path.{_≡_}
 use mathlib.Core.Logic.{_≢_, _⊎_}
 use mathlib.Core.Bool.{Bool, not, _&&_}
 use mathlib.Core.List.{List, [], _∷_}
-use Prim.Native.Nat.{ℕ, _+_, _-_, _*_, _/_, _%_, _^_, _≤_, _<_, min}
+use Prim.Native.Nat.{ℕ, _+_, _*_, _/_, _%_, _^_, _≤_, _<_}
 use lib.Dec.{leb, eqb}
 use lib.ListN.{length, getD, take, drop, replicate}
 use Rattle.meaning.specs.Counting.{each}
+use Rattle.acceptance.specs.Masks.{OwnSets}
 use Rattle.automaton.specs.declared.Automaton.{Automaton}
 
 -- ---- arrays
@@ -55,12 +56,6 @@ empty = record {
   marks = replicate 256 0;
 }
 
--- ---- acceptance, as a mask: bit M says yes for the set of marks M
-
--- "a run is accepting if every set is met infinitely often": yes for all sets together only; past 4 sets that of 4
-abbrev pub everySet : ℕ → ℕ
-everySet sets = 2 ^ (2 ^ min sets 4 - 1)
-
 -- ---- "The automaton"
 
 -- "32 to 126 without quote and backslash", as a test and as a fact
@@ -84,8 +79,8 @@ pub record Valid (a : Automaton) : Type 0 where
   pub start-lt : a .start < a .states
   pub propositions-le : a .propositions ≤ 4
   pub sets-le : a .sets ≤ 4
-  -- for now only "a run is accepting if every set is met infinitely often"
-  pub acceptance-is : a .acceptance ≡ 2 ^ (2 ^ a .sets - 1)
+  -- "its acceptance as the yes or no for each set of marks (no past its sets, else 4)"
+  pub own-sets : OwnSets (a .acceptance) (a .sets)
   -- destinations are states, and marks are sets that there are
   pub destination-lt : (q l : ℕ) → q < a .states → l < letters a → destination a q l < a .states
   pub marks-lt : (q l : ℕ) → q < a .states → l < letters a → markSet a q l < 2 ^ a .sets

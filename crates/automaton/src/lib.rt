@@ -1,11 +1,11 @@
 // The automaton as a value, its limits, and the test that a value lies in "The automaton".
+use acceptance::own_sets;
 use bits::powers::power_of_two;
-use bits::sets::single;
 ghost use mathlib.Core.Path.{_≡_};
 ghost use mathlib.Core.Logic.{_↔_};
 ghost use mathlib.Core.Bool.{true};
-ghost use Rattle.automaton.specs.Tests.{acceptanceFits, countsFit, fits, tablesFit};
-ghost use Rattle.automaton.specs.Value.{Valid, empty, everySet};
+ghost use Rattle.automaton.specs.Tests.{countsFit, fits, tablesFit};
+ghost use Rattle.automaton.specs.Value.{Valid, empty};
 
 pub mod names;
 mod naming;
@@ -62,14 +62,6 @@ impl Automaton {
         }
     }
 
-    // The acceptance of document 01: yes for all sets together, and for no other set of marks. Past the sets that there can
-    // be, that of the most there are.
-    pub fn every_set(sets: usize) -> u16
-        ensures { λ r. ⌜ r ≡ everySet sets ⌝ }
-    {
-        single(power_of_two(sets) - 1)
-    }
-
     // Whether the value lies in "The automaton".
     pub fn valid(self) -> bool
         ensures { λ r. ⌜ (r ≡ true) ↔ Valid self ⌝ }
@@ -85,7 +77,7 @@ fn fits(a: Automaton) -> bool
     if !counts_fit(a.states, a.start, a.propositions, a.sets) {
         return false;
     }
-    if !acceptance_fits(a.acceptance, a.sets) {
+    if !own_sets(a.acceptance, a.sets) {
         return false;
     }
     if !tables_fit(a) {
@@ -110,12 +102,6 @@ fn counts_fit(states: usize, start: usize, propositions: usize, sets: usize) -> 
         return false;
     }
     sets <= Automaton::SETS
-}
-
-fn acceptance_fits(acceptance: u16, sets: usize) -> bool
-    ensures { λ r. ⌜ r ≡ acceptanceFits acceptance sets ⌝ }
-{
-    acceptance == Automaton::every_set(sets)
 }
 
 // Destinations are states, and marks are sets that there are.

@@ -16,7 +16,7 @@ use Rattle.encoding.specs.NamedFile.{named-length}
 use Rattle.encoding.specs.Numbering.{split}
 use Rattle.encoding.specs.Named.{variablesFor, fileFor}
 use Rattle.clause_sizes.specs.declared.Target.{Target}
-use Rattle.clause_sizes.specs.Targets.{named, Dimensioned, last, file}
+use Rattle.clause_sizes.specs.Targets.{named, Proper, last, file}
 use Rattle.clause_sizes.specs.declared.Sizes.{Sizes}
 use Rattle.clause_sizes.specs.Sizes.{Fitting, targetOf}
 use Rattle.clause_sizes.specs.Limits.{candidate-subsets-le}
@@ -108,6 +108,6 @@ module _ {a : Automaton} {z : Sizes} (w : Measured a z) where
       ∙ ap (λ A. length (fileFor A (named (targetOf z)))) (measured-view w)
 
 -- the header's answer, where nothing is turned down
-pub headed : (a : Automaton) (τ : Target) (t : Totals) → Valid a → Dimensioned τ → HeaderTotals a τ t → Headed a τ t
+pub headed : (a : Automaton) (τ : Target) (t : Totals) → Valid a → Proper τ → HeaderTotals a τ t → Headed a τ t
 headed a τ (Of variables clauses) v i h = (v, i, h)
 headed a τ (Refused f) v i h = absurd h

@@ -7,7 +7,7 @@ use Rattle.refusals.specs.declared.Code.{Code}
 use Rattle.refusals.specs.Refused.{codeOf}
 use Rattle.automaton.specs.Value.{Valid}
 use Rattle.clause_sizes.specs.declared.Target.{Target}
-use Rattle.clause_sizes.specs.Targets.{Dimensioned, last, file}
+use Rattle.clause_sizes.specs.Targets.{Proper, last, file}
 use Rattle.clause_sizes.specs.Sizes.{Refuses}
 use Rattle.clause_header.specs.declared.Totals.{Totals}
 use Rattle.clause_header.specs.declared.Totals.the-variants.{Of, Refused}
@@ -23,5 +23,5 @@ returned (Of variables clauses) = none
 returned (Refused f) = some (codeOf f)
 
 abbrev pub Headed : Automaton → Target → Totals → Type 0
-Headed a τ (Of variables clauses) = Valid a × Dimensioned τ × HeaderTotals a τ (Of variables clauses)
+Headed a τ (Of variables clauses) = Valid a × Proper τ × HeaderTotals a τ (Of variables clauses)
 Headed a τ (Refused f) = Refuses a τ f (returned (Refused f))

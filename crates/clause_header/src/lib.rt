@@ -78,8 +78,8 @@ fn closures_by(z: Sizes, accepted: usize, f: usize) -> usize
     count
 }
 
-// How many pairs I, K there are of which exactly one of "I∪K is all m" and "J∪F is all s" is true, where J∪F is the union: where the
-// reference's acceptance says yes for it, those that the candidate's says no for, and else the others.
+// How many pairs I, K there are for which the two acceptances disagree on I∪K and J∪F, where J∪F is the union: where the reference's
+// says yes for it, those that the candidate's says no for, and else the others.
 fn pairs_for(z: Sizes, accepted: usize, union: usize) -> usize
     requires { ⌜ Fitting z × (accepted ≤ z .candidate .subsets * z .candidate .subsets) ⌝ }
     ensures { λ r. ⌜ (r ≡ pairsFor z accepted union) × (r ≤ 256) ⌝ }

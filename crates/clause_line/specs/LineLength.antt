@@ -23,7 +23,7 @@ use Rattle.encoding.specs.NamedFile.{named-numbering, named-well-posed}
 use Rattle.encoding.specs.Named.{taskFor, numberFor, variablesFor, fileFor, Named}
 use Rattle.decimal.specs.Digits.{decimal-at-most}
 use Rattle.clause_sizes.specs.declared.Target.{Target}
-use Rattle.clause_sizes.specs.Targets.{named, Dimensioned, task, numbers, file}
+use Rattle.clause_sizes.specs.Targets.{named, Proper, task, numbers, file}
 use Rattle.clause_sizes.specs.declared.Sizes.{Sizes}
 use Rattle.clause_sizes.specs.Numbers.{numberOf}
 use Rattle.clause_sizes.specs.Sizes.{targetOf}
@@ -90,9 +90,9 @@ found-line-le z start destinations marks tables h {c} x e =
     (record { start-lt = h; step-lt = tables .step-lt; own-sets = λ S T e. ap (has (z .reference .acceptance)) (set-of-same (z .reference .sets) S T e) })
     (f .n-some) (f .n-le) (f .m-le) (last-le f) c (found-in-file (taskOf z start destinations marks) (numberOf z) x e)
 
-module _ {a : Automaton} {τ : Target} (v : Valid a) (d : Dimensioned τ) where
+module _ {a : Automaton} {τ : Target} (v : Valid a) (t : Proper τ) where
   reference-line-le : (c : List ℤ) → List·Memᴰ c (file a τ) → length (lineText c) ≤ 80
-  reference-line-le = file-line-le (view a) (named τ) (view-formed v) (d .n-some) (d .n-le) (d .m-le) (last-le (sizes-fit v d))
+  reference-line-le = let f = sizes-fit v t in file-line-le (view a) (named τ) (view-formed v) (f .n-some) (f .n-le) (f .m-le) (last-le f)
 
   -- the line of a clause that is handed out, or is left, of the file for a reference
   pub step-line-le : (x : ℕ) {c : List ℤ} {y : ℕ} → found-from a τ x ≡ handed c y → length (lineText c) ≤ 80

@@ -1,5 +1,5 @@
 -- What stands at a position, by group, and that it is what stands there in the file.
-use mathlib.Core.Path.{_≡_, refl, sym, ap, ap₂, _∙_}
+use mathlib.Core.Path.{_≡_, refl, ap, ap₂, _∙_}
 use mathlib.Core.Bool.{Bool, xor}
 use mathlib.Core.List.{List, [], _∷_}
 use Prim.Native.Nat.{ℕ, _+_, _*_, _/_, _%_, _^_, _<_}
@@ -8,7 +8,6 @@ use lib.IntN.{ℤ}
 use lib.ListN.{getD}
 use Rattle.meaning.specs.BitSet.{has, set-of}
 use Rattle.meaning.specs.MarkSets.{set-of-has}
-use Rattle.automaton.specs.Acceptance.{every-set-has}
 use Rattle.encoding.specs.Variables.{Task}
 use Rattle.encoding.specs.Clauses.{_∪_, only, marks-of, exactly-one, totality, initial, successor, extension, closure, not-marks}
 use Rattle.encoding.specs.Positions.{at₁, successor-at, at₃, at₄}
@@ -80,7 +79,7 @@ module _ (z : Sizes) (start : ℕ) (destinations marks : List ℕ) where
         let i = extensionIndices z x in
         ap (λ F. extensionOf z i (getD destinations (i .v .0 * 16 + i .l) 0) F ∷ []) (marks-is (i .v .0) (i .l) (w .v-lt) (w .l-lt))
 
-    -- "exactly one of "I∪K is all m" and "J∪F is all s" is true", by the two masks
+    -- "where the two acceptances disagree on I∪K and J∪F", by the two masks
     pub exactly-one-is : (v l I J K : ℕ) → v < z .reference .states → l < z .letters → I < 2 ^ z .candidate .sets → J < 2 ^ z .reference .sets → K < 2 ^ z .candidate .sets
         → exactly-one (taskOf z start destinations marks) v l I J K ≡ disagree z (I ∪ K) (J ∪ getD marks (v * 16 + l) 0)
     unfolding exactly-one
@@ -88,7 +87,7 @@ module _ (z : Sizes) (start : ℕ) (destinations marks : List ℕ) where
         let m = z .candidate .sets in
         let s = z .reference .sets in
         let F = getD marks (v * 16 + l) 0 in
-        ap₂ xor (sym (ap (λ mask. has mask (I ∪ K)) (tables .candidate-every) ∙ every-set-has m (I ∪ K) (or-lt m I K hI hK)))
+        ap₂ xor (ap (has (z .candidate .acceptance)) (set-of-has m (I ∪ K) (or-lt m I K hI hK)))
         (ap (λ G. has (z .reference .acceptance) (set-of s (has (J ∪ G)))) (marks-is v l hv hl)
         ∙ ap (has (z .reference .acceptance)) (set-of-has s (J ∪ F) (or-lt s J F hJ (tables .marks-lt v l hv hl))))
 

@@ -1,6 +1,6 @@
 -- DEFINITIONS: the reference as the functions here get it: its counts among the sizes, and its start and its two tables beside them.
 use mathlib.Core.Path.{_≡_}
-use Prim.Native.Nat.{ℕ, _+_, _-_, _*_, _^_, _<_}
+use Prim.Native.Nat.{ℕ, _+_, _*_, _^_, _<_}
 use mathlib.Core.List.{List}
 use lib.ListN.{getD}
 use Rattle.meaning.specs.Automata.{Aut}
@@ -29,9 +29,8 @@ taskOf z start destinations marks = taskFor (tabled z start destinations marks) 
 abbrev pub StepsWithin : Sizes → List ℕ → Type 0
 StepsWithin z destinations = (u l : ℕ) → u < z .reference .states → l < z .letters → getD destinations (u * 16 + l) 0 < z .reference .states
 
--- destinations are states, and marks are sets that there are; for now the candidate's acceptance is that of every set
+-- destinations are states, and marks are sets that there are
 pub record Tables (z : Sizes) (destinations marks : List ℕ) : Type 0 where
   pub fits : Fitting z
   pub step-lt : StepsWithin z destinations
   pub marks-lt : (u l : ℕ) → u < z .reference .states → l < z .letters → getD marks (u * 16 + l) 0 < 2 ^ z .reference .sets
-  pub candidate-every : z .candidate .acceptance ≡ 2 ^ (2 ^ z .candidate .sets - 1)

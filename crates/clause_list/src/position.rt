@@ -135,7 +135,7 @@ fn closure_indices(z: Sizes, destinations: &[u8; Automaton::CELLS], x: usize) ->
     }
 }
 
-// "exactly one of "I∪K is all m" and "J∪F is all s" is true": the two acceptances say different things of these sets of marks.
+// Whether the two acceptances disagree on a set of candidate marks and one of reference marks.
 fn disagree(z: Sizes, candidate: usize, reference: usize) -> bool
     ensures { λ r. ⌜ r ≡ disagree z candidate reference ⌝ }
 {

@@ -4,6 +4,7 @@ use native.Mathlib.Omega.{arith}
 use lib.Pow.{pow-pos}
 use Prim.Native.Nat.{ℕ, _+_, _*_, _^_, _≤_}
 use native.Mathlib.Nat.{mul-le-mul}
+use Rattle.acceptance.specs.Laws.{every-set-own}
 use Rattle.automaton.specs.declared.Automaton.{Automaton}
 use Rattle.automaton.specs.Value.{Valid}
 use Rattle.bits.specs.Powers.{power-le}
@@ -11,15 +12,15 @@ use Rattle.automaton.specs.Letters.{letters-le}
 use Rattle.encoding.specs.Named.{tableVariablesFor}
 use Rattle.clause_sizes.specs.declared.Target.{Target}
 use Rattle.clause_sizes.specs.declared.Sizes.{Sizes}
-use Rattle.clause_sizes.specs.Targets.{named, Dimensioned, numbers, last}
+use Rattle.clause_sizes.specs.Targets.{named, every, Dimensioned, Proper, numbers, last}
 use Rattle.clause_sizes.specs.Sizes.{Fitting, sizesOf, targetOf}
 use Rattle.clause_sizes.specs.Numbers.{counted, numberOf, lastVariable}
 
-pub sizes-fit : {a : Automaton} {τ : Target} → Valid a → Dimensioned τ → Fitting (sizesOf a τ)
-sizes-fit {a} v d = record {
-  n-some = d .n-some;
-  n-le = d .n-le;
-  m-le = d .m-le;
+pub sizes-fit : {a : Automaton} {τ : Target} → Valid a → Proper τ → Fitting (sizesOf a τ)
+sizes-fit {a} v t = record {
+  n-some = t .dimensioned .n-some;
+  n-le = t .dimensioned .n-le;
+  m-le = t .dimensioned .m-le;
   r-some = omega (arith, v .start-lt);
   r-le = v .states-le;
   s-le = v .sets-le;
@@ -30,6 +31,10 @@ sizes-fit {a} v d = record {
   steps-is = refl;
   marks-is = refl;
 }
+
+-- Inf of all sets has no yes past m
+pub every-proper : {n m : ℕ} → Dimensioned (every n m) → Proper (every n m)
+every-proper d = record { dimensioned = d; own-sets = every-set-own (d .m-le) refl }
 
 -- ---- bounds
 

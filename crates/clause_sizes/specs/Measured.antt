@@ -7,21 +7,21 @@ use Rattle.clause_sizes.specs.declared.Target.{Target}
 use Rattle.clause_sizes.specs.declared.Sizes.{Sizes}
 use Rattle.clause_sizes.specs.declared.Sized.{Sized}
 use Rattle.clause_sizes.specs.declared.Sized.the-variants.{Of, Refused}
-use Rattle.clause_sizes.specs.Targets.{Dimensioned}
+use Rattle.clause_sizes.specs.Targets.{Proper}
 use Rattle.clause_sizes.specs.Sizes.{Refuses, Sizing, sizesOf, targetOf, returned}
 
 -- z are the sizes of a file for the reference a
 pub record Measured (a : Automaton) (z : Sizes) : Type 0 where
   pub valid : Valid a
-  pub dimensioned : Dimensioned (targetOf z)
+  pub proper : Proper (targetOf z)
   pub sized : z ≡ sizesOf a (targetOf z)
 
 -- what the answer of `measure` says, by its case
-pub sizing-of : {a : Automaton} {τ : Target} {s : Sized} {z : Sizes} → Sizing a τ s → s ≡ Of z → Valid a × Dimensioned τ × (z ≡ sizesOf a τ)
+pub sizing-of : {a : Automaton} {τ : Target} {s : Sized} {z : Sizes} → Sizing a τ s → s ≡ Of z → Valid a × Proper τ × (z ≡ sizesOf a τ)
 sizing-of {a} {τ} h e = subst (Sizing a τ) e h
 
 pub sizing-refused : {a : Automaton} {τ : Target} {s : Sized} {f : Refusal} → Sizing a τ s → s ≡ Refused f → Refuses a τ f (returned (Refused f))
 sizing-refused {a} {τ} h e = subst (Sizing a τ) e h
 
-pub measured-of : {a : Automaton} {τ : Target} {z : Sizes} → Valid a → Dimensioned τ → z ≡ sizesOf a τ → Measured a z
-measured-of {a} v i e = subst (Measured a) (sym e) (record { valid = v; dimensioned = i; sized = refl })
+pub measured-of : {a : Automaton} {τ : Target} {z : Sizes} → Valid a → Proper τ → z ≡ sizesOf a τ → Measured a z
+measured-of {a} v i e = subst (Measured a) (sym e) (record { valid = v; proper = i; sized = refl })

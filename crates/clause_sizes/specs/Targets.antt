@@ -3,6 +3,7 @@
 use mathlib.Core.List.{List}
 use Prim.Native.Nat.{ℕ, _≤_}
 use lib.IntN.{ℤ}
+use Rattle.acceptance.specs.Masks.{everySet, OwnSets}
 use Rattle.automaton.specs.declared.Automaton.{Automaton}
 use Rattle.automaton.specs.View.{view}
 use Rattle.encoding.specs.Variables.{Task, Var}
@@ -10,13 +11,22 @@ use Rattle.encoding.specs.Named.{Named, taskFor, numberFor, variablesFor, table
 use Rattle.clause_sizes.specs.declared.Target.{Target}
 
 abbrev pub named : Target → Named
-named τ = record { n = τ .states; m = τ .sets }
+named τ = record { n = τ .states; m = τ .sets; acceptance = τ .acceptance }
+
+-- Inf of all sets: "search and clause program use Inf of all"
+abbrev pub every : ℕ → ℕ → Target
+every n m = record { states = n; sets = m; acceptance = everySet m }
 
 -- "Candidate: n states (1 to 8), m sets (0 to 4)"
 pub record Dimensioned (τ : Target) : Type 0 where
   pub n-some : 1 ≤ τ .states
   pub n-le : τ .states ≤ 8
   pub m-le : τ .sets ≤ 4
+
+-- there is a file for it: its counts are such, and no "yes past m"
+pub record Proper (τ : Target) : Type 0 where
+  pub dimensioned : Dimensioned τ
+  pub own-sets : OwnSets (τ .acceptance) (τ .sets)
 
 module _ (a : Automaton) (τ : Target) where
   abbrev pub task : Task

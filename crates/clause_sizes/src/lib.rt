@@ -3,21 +3,37 @@ ghost use mathlib.Core.Path.{_≡_};
 ghost use mathlib.Core.Logic.{_↔_};
 ghost use mathlib.Core.Bool.{true};
 ghost use Prim.Native.Nat.{_≤_};
-ghost use Rattle.clause_sizes.specs.Targets.{Dimensioned};
+ghost use Rattle.clause_sizes.specs.Targets.{Dimensioned, every};
 ghost use Rattle.clause_sizes.specs.Sizes.{Counting, Fitting, Sizing, measured};
 ghost use Rattle.clause_sizes.specs.Numbers.{LastIfAny};
+use acceptance::every_set;
+use acceptance::own_sets;
 use automaton::Automaton;
 use bits::powers::power_of_two;
 use refusals::Refusal;
 
-// What the caller names for a file, beside the reference: the candidate's states n and its acceptance sets m.
+// What the caller names for a file, beside the reference: the candidate's states n, its acceptance sets m, and its acceptance as a
+// mask, bit M for the set of marks M.
 pub struct Target {
     pub states: usize,
     pub sets: usize,
+    pub acceptance: u16,
 }
 
-// Of the candidate or of the reference: its states, its acceptance sets, how many sets of marks there are, and its acceptance as a
-// mask, bit M for the set of marks M.
+impl Target {
+    // With Inf of all sets.
+    pub fn every(states: usize, sets: usize) -> Target
+        ensures { λ r. ⌜ r ≡ every states sets ⌝ }
+    {
+        Target {
+            states,
+            sets,
+            acceptance: every_set(sets),
+        }
+    }
+}
+
+// Of the candidate or of the reference: its states, its acceptance sets, how many sets of marks there are, and its acceptance.
 pub struct Counts {
     pub states: usize,
     pub sets: usize,
@@ -48,6 +64,9 @@ pub fn measure(reference: Automaton, target: Target) -> Sized
     }
     if !dimensioned(target) {
         return Sized::Refused(Refusal::Dimensions(target.states, target.sets));
+    }
+    if !own_sets(target.acceptance, target.sets) {
+        return Sized::Refused(Refusal::Outside);
     }
     let z = measured(
         target,
@@ -90,7 +109,7 @@ fn measured(
             states: n,
             sets: m,
             subsets: power_of_two(m),
-            acceptance: Automaton::every_set(m),
+            acceptance: target.acceptance,
         },
         reference: Counts {
             states,

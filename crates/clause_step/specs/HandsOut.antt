@@ -11,7 +11,7 @@ use Rattle.automaton.specs.Value.{Valid}
 use Rattle.encoding.specs.Variables.{Task, Var}
 use Rattle.decimal.specs.Writing.{wrote-front}
 use Rattle.clause_sizes.specs.declared.Target.{Target}
-use Rattle.clause_sizes.specs.Targets.{Dimensioned, task, numbers}
+use Rattle.clause_sizes.specs.Targets.{Proper, task, numbers}
 use Rattle.clause_list.specs.Next.{Found, clauses-from}
 use Rattle.clause_indices.specs.Indices.{clauseRoom}
 use Rattle.clause_list.specs.Following.{First, next-first, from-start, position-of}
@@ -51,12 +51,12 @@ module _ (a : Automaton) (τ : Target) where
       one-more x (c .result .answer) (c .result .position) (c .before) (c .after) (all-said cs) s (answers-from (c .result .position) cs k)
 
   -- one call, for the lemma on refusals
-  stays : Valid a → Dimensioned τ → (x : ℕ) (d e : List ℤ) (b : Answer) (y : ℕ) → x ≤ last-position → StepAnswers a τ x d e b y → Stays clauseRoom x d e b y
+  stays : Valid a → Proper τ → (x : ℕ) (d e : List ℤ) (b : Answer) (y : ℕ) → x ≤ last-position → StepAnswers a τ x d e b y → Stays clauseRoom x d e b y
   stays v i x d e (Written k) y h (ok, (c, f, w)) = subst (λ f. position-of T num f ≤ last-position) f (stays-in-range v i x h)
   stays v i x d e Ended y h (ok, (f, w)) = subst (λ f. position-of T num f ≤ last-position) f (stays-in-range v i x h)
   stays v i x d e (Refused f) y h (t, p, w) = (turned-down-short v i h t, p, w)
 
-pub hands-out : {a : Automaton} {τ : Target} → Valid a → Dimensioned τ → (cs : List Call) → Calls a τ fresh-position cs → HandsOut a τ cs
+pub hands-out : {a : Automaton} {τ : Target} → Valid a → Proper τ → (cs : List Call) → Calls a τ fresh-position cs → HandsOut a τ cs
 hands-out {a} {τ} v i cs k = record {
   answers = answers-from a τ fresh-position cs k ∙ ap (λ l. in-order l (length (all-said cs))) (from-start (task a τ) (numbers a τ));
   refused = refused-from (λ x d e r. stays a τ v i x d e (r .answer) (r .position)) fresh-position cs (omega arith) k;

@@ -10,17 +10,18 @@ use Rattle.bits.specs.Powers.{power-le}
 use Rattle.encoding.specs.Positions.{positions}
 use Rattle.encoding.specs.Named.{taskFor}
 use Rattle.clause_sizes.specs.declared.Target.{Target}
-use Rattle.clause_sizes.specs.Targets.{Dimensioned, task, numbers}
+use Rattle.clause_sizes.specs.Targets.{Proper, task, numbers}
 use Rattle.clause_list.specs.Following.{position-of, next-le}
 use Rattle.clause_step.specs.Step.{last-position, found-from}
 
 -- the largest sizes have the largest position
-pub largest-positions : positions (taskFor (record { states = 16; letters = 16; sets = 4; start = 0; step = λ q l. 0; marks = λ q l i. false; accept = λ S. true }) (record { n = 8; m = 4 })) (λ x. 0)
+pub largest-positions : positions (taskFor (record { states = 16; letters = 16; sets = 4; start = 0; step = λ q l. 0; marks = λ q l i. false; accept = λ S. true }) (record { n = 8; m = 4; acceptance = 0 })) (λ x. 0)
     ≡ last-position
 largest-positions = refl
 
-pub positions-le : {a : Automaton} {τ : Target} → Valid a → Dimensioned τ → positions (task a τ) (numbers a τ) ≤ last-position
-positions-le {a} {τ} v d =
+pub positions-le : {a : Automaton} {τ : Target} → Valid a → Proper τ → positions (task a τ) (numbers a τ) ≤ last-position
+positions-le {a} {τ} v t =
+    let d = t .dimensioned in
     let n = τ .states in
     let m = τ .sets in
     let L : 2 ^ a .propositions ≤ 16 = power-le (v .propositions-le) in
@@ -34,6 +35,6 @@ positions-le {a} {τ} v d =
     let first : n * 2 ^ a .propositions ≤ 128 = mul-le-mul (d .n-le) L in
     omega arith
 
-pub stays-in-range : {a : Automaton} {τ : Target} → Valid a → Dimensioned τ → (x : ℕ) → x ≤ last-position
+pub stays-in-range : {a : Automaton} {τ : Target} → Valid a → Proper τ → (x : ℕ) → x ≤ last-position
     → position-of (task a τ) (numbers a τ) (found-from a τ x) ≤ last-position
-stays-in-range {a} {τ} v d x h = next-le (task a τ) (numbers a τ) last-position x (positions-le v d) h
+stays-in-range {a} {τ} v t x h = next-le (task a τ) (numbers a τ) last-position x (positions-le v t) h

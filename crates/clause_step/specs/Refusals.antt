@@ -11,19 +11,20 @@ use Rattle.refusals.specs.declared.Code.{Code}
 use Rattle.refusals.specs.declared.Refusal.{Refusal}
 use Rattle.automaton.specs.Value.{Valid}
 use Rattle.clause_sizes.specs.declared.Target.{Target}
-use Rattle.clause_sizes.specs.Targets.{Dimensioned}
+use Rattle.clause_sizes.specs.Targets.{Proper}
 use Rattle.clause_step.specs.declared.Answer.{Answer}
 use Rattle.clause_step.specs.declared.Answer.the-variants.{Written, Ended, Refused}
 use Rattle.clause_step.specs.declared.Handed.{Handed}
-use Rattle.clause_step.specs.Step.{TurnedDown, short, outside, dimensions, last-position}
+use Rattle.clause_step.specs.Step.{TurnedDown, short, outside, dimensions, past-sets, last-position}
 use Rattle.clause_step.specs.Calls.{CallOn, CallsOn, RefusedShort}
 
 -- one call at a position in its range
-pub turned-down-short : {a : Automaton} {τ : Target} {x needed given : ℕ} {f : Refusal} {c : Option Code} → Valid a → Dimensioned τ → x ≤ last-position
+pub turned-down-short : {a : Automaton} {τ : Target} {x needed given : ℕ} {f : Refusal} {c : Option Code} → Valid a → Proper τ → x ≤ last-position
     → TurnedDown needed given a τ x f c → given < needed
 turned-down-short v i h (short l) = l
 turned-down-short v i h (outside r l) = absurd (l (v, h))
-turned-down-short v i h (dimensions r u l k) = absurd (k i)
+turned-down-short v i h (dimensions r u l k) = absurd (k (i .dimensioned))
+turned-down-short v i h (past-sets r u l d k) = absurd (k (i .own-sets))
 
 -- what is asked of one call: a refusal is one of the buffer, and any other answer leaves a position in its range
 abbrev pub Stays : {A : Type 0} (needed x : ℕ) (d e : List A) → Answer → (y : ℕ) → Type 0

@@ -14,13 +14,14 @@ use Rattle.clause_sizes.specs.Measured.{Measured}
 use Rattle.clause_list.specs.Tables.{taskOf}
 use Rattle.clause_list.specs.Measured.{measured-task, measured-number}
 use Rattle.clause_list.specs.Next.{next-clause}
-use Rattle.clause_step.specs.Step.{TurnedDown, outside, dimensions, found-from, last-position}
+use Rattle.clause_step.specs.Step.{TurnedDown, outside, dimensions, past-sets, found-from, last-position}
 
 -- a refusal of the reference or the target is one of the call
 pub refused-sizes : {a : Automaton} {τ : Target} {x needed given : ℕ} {f : Refusal} {c : Option Code} → needed ≤ given → x ≤ last-position → Refuses a τ f c
     → TurnedDown needed given a τ x f c
 refused-sizes h l (sizes.outside v) = outside h (λ (w, i). v w)
 refused-sizes h l (sizes.dimensions v i) = dimensions h v l i
+refused-sizes h l (sizes.past-sets v i o) = past-sets h v l i o
 
 -- the clauses that are found are those of the reference's file
 pub measured-found : {a : Automaton} {z : Sizes} → Measured a z → (x : ℕ)

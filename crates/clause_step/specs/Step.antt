@@ -5,6 +5,7 @@ use mathlib.Core.Option.{Option, none, some}
 use Prim.Native.Nat.{ℕ, _≤_, _<_}
 use lib.IntN.{ℤ}
 use lib.ListN.{length}
+use Rattle.acceptance.specs.Masks.{OwnSets}
 use Rattle.automaton.specs.declared.Automaton.{Automaton}
 use Rattle.refusals.specs.declared.Code.{Code}
 use Rattle.refusals.specs.declared.Refusal.{Refusal}
@@ -13,7 +14,7 @@ use Rattle.refusals.specs.Refused.{row, codeOf}
 use Rattle.automaton.specs.Value.{Valid}
 use Rattle.decimal.specs.Wrote.{Wrote}
 use Rattle.clause_sizes.specs.declared.Target.{Target}
-use Rattle.clause_sizes.specs.Targets.{Dimensioned, task, numbers}
+use Rattle.clause_sizes.specs.Targets.{Dimensioned, Proper, task, numbers}
 use Rattle.clause_list.specs.Next.{Found, handed, ended, next-clause}
 use Rattle.clause_indices.specs.Indices.{clauseRoom}
 use Rattle.clause_step.specs.declared.Answer.{Answer}
@@ -36,17 +37,18 @@ last-position = 8_657_059_969
 abbrev pub lineRoom : ℕ
 lineRoom = 80
 
--- "Order: 13 .., 4 for handed values, 8": a buffer has `given` places of the `needed`
+-- "Order: 13 .., 4 for handed values, 8", then for the named acceptance "a yes past m: 4, 0, 0, after 8": a buffer has `given` places of the `needed`
 pub data TurnedDown (needed given : ℕ) (a : Automaton) (τ : Target) (x : ℕ) : Refusal → Option Code → Type 0 where
   short : given < needed → TurnedDown needed given a τ x (Short needed given) (some (row 13 needed given))
   outside : needed ≤ given → ¬ (Valid a × (x ≤ last-position)) → TurnedDown needed given a τ x Outside (some (row 4 0 0))
   dimensions : needed ≤ given → Valid a → x ≤ last-position → ¬ Dimensioned τ → TurnedDown needed given a τ x (Dimensions (τ .states) (τ .sets)) (some (row 8 (τ .states) (τ .sets)))
+  past-sets : needed ≤ given → Valid a → x ≤ last-position → Dimensioned τ → ¬ OwnSets (τ .acceptance) (τ .sets) → TurnedDown needed given a τ x Outside (some (row 4 0 0))
 
 pub record Accepted (needed given : ℕ) (a : Automaton) (τ : Target) (x : ℕ) : Type 0 where
   pub room : needed ≤ given
   pub valid : Valid a
   pub in-range : x ≤ last-position
-  pub dimensioned : Dimensioned τ
+  pub proper : Proper τ
 
 -- ---- the answers
 

@@ -10,7 +10,7 @@ use Rattle.automaton.specs.declared.Automaton.{Automaton}
 use Rattle.automaton.specs.Value.{Valid}
 use Rattle.decimal.specs.Writing.{wrote-front}
 use Rattle.clause_sizes.specs.declared.Target.{Target}
-use Rattle.clause_sizes.specs.Targets.{Dimensioned, task, numbers}
+use Rattle.clause_sizes.specs.Targets.{Proper, task, numbers}
 use Rattle.clause_list.specs.Next.{Found, clauses-from}
 use Rattle.clause_list.specs.Following.{First, next-first, from-start, position-of}
 use Rattle.clause_step.specs.declared.Answer.{Answer}
@@ -66,7 +66,7 @@ module _ (a : Automaton) (τ : Target) where
     where
       -- a line has at most 80 bytes, and so many there are
       none : left-from y ≡ []
-      none = ⊎-elim (λ g. ap linesText g) (λ g. absurd (omega (arith, ok .room, g .long, left-line-le (ok .valid) (ok .dimensioned) y (g .next)))) (f .stop)
+      none = ⊎-elim (λ g. ap linesText g) (λ g. absurd (omega (arith, ok .room, g .long, left-line-le (ok .valid) (ok .proper) y (g .next)))) (f .stop)
 
   ended-left : (x : ℕ) (d e : List ℕ) (r : Handed) → TextStepped a τ x d e r → r .answer ≡ Ended → left-from x ≡ []
   ended-left x d e r s q =
@@ -101,7 +101,7 @@ module _ (a : Automaton) (τ : Target) where
       (List·Memᴰ·cases-cons j)
 
   -- one call, for the lemma on refusals
-  module _ (v : Valid a) (i : Dimensioned τ) where
+  module _ (v : Valid a) (i : Proper τ) where
     batch-stays : (x : ℕ) (d e : List ℕ) (b : Answer) (y : ℕ) → x ≤ last-position → BatchAnswers a τ x d e b y → Stays 80 x d e b y
     batch-stays x d e (Written k) y h (ok, (f, some)) = f .lines .within last-position (positions-le v i) h
     batch-stays x d e Ended y h (ok, f) = f .lines .within last-position (positions-le v i) h
@@ -118,7 +118,7 @@ module _ (a : Automaton) (τ : Target) where
     stays : (x : ℕ) (d e : List ℕ) (r : Handed) → x ≤ last-position → TextStepped a τ x d e r → Stays 80 x d e (r .answer) (r .position)
     stays x d e r h = ⊎-elim (line-stays x d e (r .answer) (r .position) h) (batch-stays x d e (r .answer) (r .position) h)
 
-pub lines-out : {a : Automaton} {τ : Target} → Valid a → Dimensioned τ → (cs : List TextCall) → TextCalls a τ fresh-position cs → LinesOut a τ cs
+pub lines-out : {a : Automaton} {τ : Target} → Valid a → Proper τ → (cs : List TextCall) → TextCalls a τ fresh-position cs → LinesOut a τ cs
 lines-out {a} {τ} v i cs k =
     let start = ap linesText (from-start (task a τ) (numbers a τ)) in
     record {

@@ -1,17 +1,17 @@
--- The first word that shows a difference keeps document 01's bounds, and they fit the buffers.
+-- The first word that shows a difference keeps the documents' bounds, and they fit the buffers.
 use mathlib.Core.Path.{_≡_}
 use mathlib.Core.List.{List}
-use Prim.Native.Nat.{ℕ, suc, _*_, _≤_, _<_, max}
+use Prim.Native.Nat.{ℕ, suc, _+_, _*_, _≤_, _<_}
 use native.Mathlib.Nat.{le-trans, mul-le-mul-left, mul-le-mul-right}
 use native.Mathlib.Omega.{arith}
 use lib.ListN.{length}
 use Rattle.meaning.specs.FirstWord.{FirstWord, Precedes}
-use Rattle.meaning.specs.Decision.{Difference, ShowsWithin, shows-every}
+use Rattle.meaning.specs.Decision.{Difference, ShowsWithin, shows-any}
 use Rattle.meaning.specs.FirstWordLaws.{first-difference, first-word-short, first-of-short}
 use Rattle.automaton.specs.declared.Automaton.{Automaton}
 use Rattle.automaton.specs.Value.{Valid}
 use Rattle.automaton.specs.View.{view}
-use Rattle.automaton.specs.ViewLaws.{view-comparable, view-every}
+use Rattle.automaton.specs.ViewLaws.{view-comparable}
 use Rattle.compare.specs.Compared.{prefixRoom, loopRoom}
 
 module _ {a b : Automaton} (va : Valid a) (vb : Valid b) (same : a .propositions ≡ b .propositions) where
@@ -19,23 +19,23 @@ module _ {a b : Automaton} (va : Valid a) (vb : Valid b) (same : a .propositions
   N = a .states * b .states
 
   abbrev M : ℕ
-  M = suc (max (a .sets) (b .sets)) * N
+  M = suc (a .sets + b .sets) * N
 
   N-le : N ≤ prefixRoom
   N-le = le-trans (mul-le-mul-left (a .states) (vb .states-le)) (mul-le-mul-right 16 (va .states-le))
 
   M-le : M ≤ loopRoom
   M-le =
-      let m : suc (max (a .sets) (b .sets)) ≤ 5 = omega (arith, va .sets-le, vb .sets-le) in
-      let room : 5 * 256 ≤ loopRoom = omega arith in
-      le-trans (mul-le-mul-left (suc (max (a .sets) (b .sets))) N-le) (le-trans (mul-le-mul-right 256 m) room)
+      let m : suc (a .sets + b .sets) ≤ 9 = omega (arith, va .sets-le, vb .sets-le) in
+      let room : 9 * 256 ≤ loopRoom = omega arith in
+      le-trans (mul-le-mul-left (suc (a .sets + b .sets)) N-le) (le-trans (mul-le-mul-right 256 m) room)
 
   within : ShowsWithin (view a) (view b) M
-  within = shows-every (view-comparable va vb same) (view-every va) (view-every vb)
+  within = shows-any (view-comparable va vb same)
 
-  -- "With N the product of the two state counts, prefix ≤ N - 1 and loop ≤ (larger set count + 1)N."
+  -- "With N the product of the two state counts, prefix ≤ N - 1 ..", and "The loop bound becomes (the sum of both set counts + 1)N"
   pub word-bounds : {x y : List ℕ} → FirstWord (view a) (view b) x y
-      → (length x < a .states * b .states) × (length y ≤ suc (max (a .sets) (b .sets)) * (a .states * b .states))
+      → (length x < a .states * b .states) × (length y ≤ suc (a .sets + b .sets) * (a .states * b .states))
   word-bounds = first-word-short (view-comparable va vb same) M within
 
   pub word-fits : {x y : List ℕ} → FirstWord (view a) (view b) x y → (length x < prefixRoom) × (length y ≤ loopRoom)

@@ -21,12 +21,12 @@ abbrev pub returned : Comparison → Option Code
 returned Same = none
 returned (Refused f) = some (codeOf f)
 
--- "Buffers: prefix 256 and loop 1,280 (one byte a letter)"
+-- "Buffers: prefix 256 .. (one byte a letter)", and document 02's "the loop buffer 2,304"
 abbrev pub prefixRoom : ℕ
 prefixRoom = 256
 
 abbrev pub loopRoom : ℕ
-loopRoom = 1280
+loopRoom = 2304
 
 -- both buffers are long enough
 pub record Room (prefix loop : List ℕ) : Type 0 where

@@ -23,7 +23,7 @@ use Rattle.bits.specs.Powers.{power-le}
 use Rattle.compare_tables.specs.Tables.{entry, InRange, Below}
 use Rattle.compare_shortest.specs.Difference.{met, Shows}
 use Rattle.compare_shortest.specs.Met.{met-has}
-use Rattle.compare.specs.Acceptance.{Judged, unlike, unlike-zero, zero-unlike}
+use Rattle.compare.specs.Verdicts.{Judged, unlike, unlike-zero, zero-unlike}
 
 -- ---- the tables of a value in "The automaton"
 

@@ -1,5 +1,5 @@
 pub mod Compared
-pub mod Acceptance
+pub mod Verdicts
 pub mod Differences
 pub mod Bounds
 pub mod Searched

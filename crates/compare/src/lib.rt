@@ -9,7 +9,7 @@ ghost use lib.ListN.{length};
 ghost use Rattle.compare.specs.Compared.{Compared};
 ghost use Rattle.compare.specs.Searched.{Ready, Searched, answered};
 
-mod acceptance;
+mod verdicts;
 
 pub enum Comparison {
     Same,
@@ -18,10 +18,10 @@ pub enum Comparison {
 }
 
 impl Comparison {
-    // Bytes of the two lent buffers: document 01's bounds of a word, for the largest automata.
+    // Bytes of the two lent buffers: the documents' bounds of a word, for the largest automata.
     pub const PREFIX: usize = Automaton::STATES * Automaton::STATES;
 
-    pub const LOOP: usize = (Automaton::SETS + 1) * Comparison::PREFIX;
+    pub const LOOP: usize = (2 * Automaton::SETS + 1) * Comparison::PREFIX;
 }
 
 // Whether two automata agree on every lasso word. Where they do not, the first word that shows it is written into `prefix` and `cycle`.
@@ -61,7 +61,7 @@ fn difference(first: Automaton, second: Automaton, prefix: &mut [u8], cycle: &mu
     let second_next = second.destinations;
     let second_marks = second.marks;
     let mut hits = [0u8; HITS];
-    acceptance::judge_all(first.acceptance, second.acceptance, &mut hits);
+    verdicts::judge_all(first.acceptance, second.acceptance, &mut hits);
     compare_shortest::difference(
         &first_next,
         &first_marks,

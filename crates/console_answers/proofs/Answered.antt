@@ -13,7 +13,7 @@ use Rattle.automaton.specs.Value.{Valid}
 use Rattle.compare.specs.Compared.{prefixRoom, loopRoom}
 use Rattle.encoding.specs.Clauses.{Assignment}
 use Rattle.clause_sizes.specs.declared.Target.{Target}
-use Rattle.clause_sizes.specs.Targets.{Dimensioned}
+use Rattle.clause_sizes.specs.Targets.{Proper}
 use Rattle.solver_text.specs.declared.Reader.{Reader}
 use Rattle.solver_text.specs.declared.Answer.{Answer}
 use Rattle.solver_text.specs.declared.Answer.the-variants.{Accepted, Refused}
@@ -43,7 +43,7 @@ first (TurnedDown x) = codeOf x .first
 pub record ByText (a : Automaton) (τ : Target) (r : Reader) (f : Refusal) : Type 0 where
   pub valid : Valid a
   pub in-range : InRange r
-  pub sizes : Dimensioned τ
+  pub sizes : Proper τ
   pub offset : codeOf f .first ≡ whole a τ r .reader .scan .at
 
 module _ {p p′ l l′ : List ℕ} {x : Decoded} {a : Automaton} {τ : Target} {r : Reader} (d : Decodes p p′ l l′ x a τ r)
@@ -84,7 +84,9 @@ module _ {p p′ l l′ : List ℕ} {x : Decoded} {a : Automaton} {τ : Target} 
         other _ (d .automaton h g (λ v.
         other _ (d .state h g (λ i.
         other _ (d .dimensions h g v i (λ z.
-        by-reply (record { prefix-room = h; loop-room = g; valid = v; in-range = i; sizes = z }) _ refl) .0)
+        other _ (d .acceptance h g v i z (λ o.
+        by-reply (record { prefix-room = h; loop-room = g; valid = v; in-range = i; sizes = record { dimensioned = z; own-sets = o } }) _ refl) .0)
+        (inl (omega arith))) .0)
         (inl (omega arith))) .0)
         (inl (omega arith))) .0)
         (inl (omega arith))

@@ -10,7 +10,7 @@ use Rattle.automaton.specs.declared.Automaton.{Automaton}
 use Rattle.refusals.specs.declared.Refusal.{Refusal}
 use Rattle.refusals.specs.declared.Refusal.the-variants.{SolverForm, Literal}
 use Rattle.clause_sizes.specs.declared.Target.{Target}
-use Rattle.clause_sizes.specs.Targets.{last, kept}
+use Rattle.clause_sizes.specs.Targets.{Proper, last, kept}
 use Rattle.compare.specs.Compared.{prefixRoom, loopRoom}
 use Rattle.solver_text.specs.declared.Reader.{Reader}
 use Rattle.solver_text.specs.declared.Answer.the-variants.{Refused}
@@ -57,10 +57,12 @@ module _ {p p′ l l′ : List ℕ} {x : Decoded} {a : Automaton} {τ : Target} 
     by-call h g =
         never _ (ap (λ y. y .answer) (d .automaton h g (λ v.
         never _ (ap (λ y. y .answer) (d .state h g (λ i.
-        never _ (ap (λ y. y .answer) (d .dimensions h g v i (λ z.
+        never _ (ap (λ y. y .answer) (d .dimensions h g v i (λ s.
+        never _ (ap (λ y. y .answer) (d .acceptance h g v i s (λ o.
+        let z : Proper τ = record { dimensioned = s; own-sets = o } in
         let (f, e) = refusal-at (r .scan .place) (r .scan .at) (c v z) in
         never f (ap (λ y. y .answer) (d .text (record { prefix-room = h; loop-room = g; valid = v; in-range = i; sizes = z }) f
-        (ap (λ x. told x .answer) (refused-end (last a τ) (kept a τ) r (c v z)) ∙ e) .0))) .0))) .0))) .0))
+        (ap (λ x. told x .answer) (refused-end (last a τ) (kept a τ) r (c v z)) ∙ e) .0))) .0))) .0))) .0))) .0))
 
     by-room : Dec (prefixRoom ≤ length p) → Dec (loopRoom ≤ length l) → ⊥
     by-room (no h) g = never _ (ap (λ y. y .answer) (d .short-prefix (omega arith) .0))

@@ -12,7 +12,7 @@ use Rattle.refusals.specs.declared.Refusal.{Refusal}
 use Rattle.refusals.specs.Refused.{codeOf}
 use Rattle.automaton.specs.Value.{Valid}
 use Rattle.clause_sizes.specs.declared.Target.{Target}
-use Rattle.clause_sizes.specs.Targets.{Dimensioned, last, kept}
+use Rattle.clause_sizes.specs.Targets.{Proper, last, kept}
 use Rattle.solver_text.specs.declared.Reader.{Reader}
 use Rattle.solver_text.specs.declared.Reply.{Reply}
 use Rattle.solver_text.specs.declared.Answer.{Answer}
@@ -41,7 +41,7 @@ ahead h = cond (h .more) (4294967296 - h .reader .scan .at) 0
 module _ {a : Automaton} {τ : Target} where
   -- ---- a call, where 4 and 8 do not come
 
-  module _ (v : Valid a) (z : Dimensioned τ) {us : List (List ℕ)} {r : Reader} (k : Reads a τ fresh us r) where
+  module _ (v : Valid a) (z : Proper τ) {us : List (List ℕ)} {r : Reader} (k : Reads a τ fresh us r) where
     run-is : r ≡ run (last a τ) (kept a τ) fresh (joined us)
     run-is = pieces v z fresh-range k
 
@@ -54,20 +54,21 @@ module _ {a : Automaton} {τ : Target} where
   -- ---- one piece more
 
   module _ {us : List (List ℕ)} {r : Reader} {p : Place} (k : Reads a τ fresh us r)
-      (clean : Valid a → Dimensioned τ → refusedAt (r .scan .place) ≡ false) (placed : Valid a → Dimensioned τ → p ≡ placeOf (joined us) (r .scan .at))
+      (clean : Valid a → Proper τ → refusedAt (r .scan .place) ≡ false) (placed : Valid a → Proper τ → p ≡ placeOf (joined us) (r .scan .at))
       (u : List ℕ) {e : Reply} (c : Called a τ r (told (run (last a τ) (kept a τ) r u)) e) where
     abbrev next : Reader
     next = run (last a τ) (kept a τ) r u
 
     -- the reply is that of the reading, unless it is a refusal of the call
-    still-clean : e .answer ≡ Accepted → ¬ ¬ (Valid a × Dimensioned τ × (refusedAt (e .reader .scan .place) ≡ false))
+    still-clean : e .answer ≡ Accepted → ¬ ¬ (Valid a × Proper τ × (refusedAt (e .reader .scan .place) ≡ false))
     still-clean f never =
         let clash : (x : Refusal) → e ≡ record { answer = Refused x; reader = r } → ⊥ = λ x g. accepted-refused f (ap (λ y. y .answer) g) in
-        clash _ (c .automaton (λ v. clash _ (c .state (λ i. clash _ (c .sizes v i (λ z.
+        clash _ (c .automaton (λ v. clash _ (c .state (λ i. clash _ (c .sizes v i (λ d. clash _ (c .acceptance v i d (λ o.
+        let z : Proper τ = record { dimensioned = d; own-sets = o } in
         let g : e ≡ told next = c .text v i z in
-        never (v, z, ap (λ y. refusedAt (y .reader .scan .place)) g ∙ unrefused _ _ (sym (ap (λ y. y .answer) g) ∙ f))))))))
+        never (v, z, ap (λ y. refusedAt (y .reader .scan .place)) g ∙ unrefused _ _ (sym (ap (λ y. y .answer) g) ∙ f))))))))))
 
-    module _ (v : Valid a) (z : Dimensioned τ) where
+    module _ (v : Valid a) (z : Proper τ) where
       begins : p ≡ after first (joined us)
       begins = placed v z ∙ ap (placeOf (joined us)) (counted v z k .all (clean v z)) ∙ place-end (joined us)
 
@@ -103,7 +104,7 @@ module _ {a : Automaton} {τ : Target} where
 
   heard-more : {us vs : List (List ℕ)} {r : Reader} {p : Place} {h : Heard} {answers : List ℤ} (u : List ℕ) → us ++ (u ∷ []) ≡ [] ∷ vs → Brought answers vs
       → Reads a τ fresh us r
-      → (Valid a → Dimensioned τ → refusedAt (r .scan .place) ≡ false) → (Valid a → Dimensioned τ → p ≡ placeOf (joined us) (r .scan .at))
+      → (Valid a → Proper τ → refusedAt (r .scan .place) ≡ false) → (Valid a → Proper τ → p ≡ placeOf (joined us) (r .scan .at))
       → Hears a τ r p u h → SoFar a τ h
   heard-more {us} {vs} {r} {p} {h} {answers} u first-empty b k clean placed c = subst (SoFar a τ) (sym (c .is)) (go (c .reply .answer) refl)
     where
@@ -142,7 +143,7 @@ module _ {a : Automaton} {τ : Target} where
       heard-more {us = []} {vs = []} u (ap (λ v. v ∷ []) nil) no-piece none (λ _ _. refl) (λ _ _. refl) (subst₂ (λ r p. Hears a τ r p u h) e f c)
 
   module _ {h : Heard} (t : h .more ≡ true) (s : SoFar a τ h) where
-    clean : Valid a → Dimensioned τ → refusedAt (h .reader .scan .place) ≡ false
+    clean : Valid a → Proper τ → refusedAt (h .reader .scan .place) ≡ false
     clean _ _ = by (refusedAt (h .reader .scan .place)) (λ e. absurd (s .accepted t (λ (v, z, f). true≢false (sym e ∙ f)))) (λ e. e)
 
     pub heard-next : {k : Heard} → Goes a τ h k → SoFar a τ k
@@ -159,7 +160,7 @@ module _ {a : Automaton} {τ : Target} where
     })
     heard-next (goes u g l c) = heard-more u (ap (λ ps. ps ++ (u ∷ [])) (s .empty-first)) (brought-more u g l (s .brought)) (s .reads) clean (s .placed) c
 
-    module _ (v : Valid a) (z : Dimensioned τ) where
+    module _ (v : Valid a) (z : Proper τ) where
       ahead-is : ahead h ≡ 4294967296 - h .reader .scan .at
       ahead-is = ap (λ b. cond b (4294967296 - h .reader .scan .at) 0) t
 

@@ -9,7 +9,7 @@ use Rattle.automaton.specs.declared.Automaton.{Automaton}
 use Rattle.refusals.specs.Refused.{codeOf}
 use Rattle.automaton.specs.Value.{Valid}
 use Rattle.clause_sizes.specs.declared.Target.{Target}
-use Rattle.clause_sizes.specs.Targets.{Dimensioned, kept, last}
+use Rattle.clause_sizes.specs.Targets.{Proper, kept, last}
 use Rattle.solver_text.specs.declared.Reader.{Reader}
 use Rattle.solver_text.specs.declared.Reply.{Reply}
 use Rattle.solver_text.specs.declared.Answer.{Answer}
@@ -43,7 +43,7 @@ module _ (a : Automaton) (τ : Target) where
 
   -- no call with this reader is accepted any more
   abbrev pub Closed : Reader → Type 0
-  Closed r = Valid a → Dimensioned τ → refusedAt (r .scan .place) ≡ true
+  Closed r = Valid a → Proper τ → refusedAt (r .scan .place) ≡ true
 
   -- The pieces so far, of which the first is empty. While there may be more, nothing was refused. The place is that of the offset that the reader carries.
   pub record SoFar (h : Heard) : Type 0 where
@@ -54,8 +54,8 @@ module _ (a : Automaton) (τ : Target) where
     pub brought : Brought answers brought-pieces
     pub last : h .more ≡ false → Last (Closed (h .reader)) (h .whole)
     pub reads : Reads a τ fresh pieces (h .reader)
-    pub accepted : h .more ≡ true → ¬ ¬ (Valid a × Dimensioned τ × (refusedAt (h .reader .scan .place) ≡ false))
-    pub placed : Valid a → Dimensioned τ → h .place ≡ placeOf (joined pieces) (h .reader .scan .at)
+    pub accepted : h .more ≡ true → ¬ ¬ (Valid a × Proper τ × (refusedAt (h .reader .scan .place) ≡ false))
+    pub placed : Valid a → Proper τ → h .place ≡ placeOf (joined pieces) (h .reader .scan .at)
 
 -- the place of a refusal at the end of the text, behind which `nothing` comes
 abbrev pub endedAt : Decision → Place → List ℕ → Place

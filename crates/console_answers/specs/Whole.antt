@@ -7,7 +7,7 @@ use Rattle.automaton.specs.declared.Automaton.{Automaton}
 use Rattle.automaton.specs.Value.{Valid}
 use Rattle.encoding.specs.Clauses.{Assignment, Satisfies}
 use Rattle.clause_sizes.specs.declared.Target.{Target}
-use Rattle.clause_sizes.specs.Targets.{Dimensioned, last, kept, file}
+use Rattle.clause_sizes.specs.Targets.{Proper, last, kept, file}
 use Rattle.compare.specs.Compared.{prefixRoom, loopRoom}
 use Rattle.solver_scan.specs.SolverText.{outcome}
 use Rattle.solver_agreement.specs.Assignment.{States}
@@ -18,7 +18,7 @@ use Rattle.decode.specs.Texts.{text-answer, satisfying-text}
 use Rattle.console_answers.specs.declared.Told.{Told}
 use Rattle.console_answers.specs.FromPieces.{FromPieces}
 
-module _ {p p′ l l′ : List ℕ} {t : Told} {a : Automaton} {τ : Target} (f : FromPieces p p′ l l′ t a τ) (v : Valid a) (z : Dimensioned τ)
+module _ {p p′ l l′ : List ℕ} {t : Told} {a : Automaton} {τ : Target} (f : FromPieces p p′ l l′ t a τ) (v : Valid a) (z : Proper τ)
     (hp : prefixRoom ≤ length p) (hl : loopRoom ≤ length l) where
   pub text-told : OfText p p′ l l′ (t .decoded) a τ (outcome (last a τ) (kept a τ) (joined (f .pieces)))
   text-told = text-answer v z hp hl (f .reads) (f .decodes)

@@ -11,7 +11,7 @@ use Rattle.automaton.specs.declared.Automaton.{Automaton}
 use Rattle.refusals.specs.declared.Refusal.{Refusal}
 use Rattle.automaton.specs.Value.{Valid}
 use Rattle.clause_sizes.specs.declared.Target.{Target}
-use Rattle.clause_sizes.specs.Targets.{Dimensioned}
+use Rattle.clause_sizes.specs.Targets.{Proper}
 use Rattle.clause_step.specs.declared.Answer.{Answer}
 use Rattle.clause_step.specs.declared.Answer.the-variants.{Written, Ended, Refused}
 use Rattle.clause_step.specs.declared.Handed.{Handed}
@@ -30,7 +30,7 @@ ended-tag (Written k) e = let z : _≡_ {A = ℕ} 0 1 = e in absurd (omega arith
 ended-tag Ended e = refl
 ended-tag (Refused f) e = let z : _≡_ {A = ℕ} 2 1 = e in absurd (omega arith)
 
-module _ (a : Automaton) (τ : Target) (x : ℕ) (d e : List ℕ) (h : Handed) (s : BatchStepped a τ x d e h) (v : Valid a) (z : Dimensioned τ) (i : x ≤ last-position)
+module _ (a : Automaton) (τ : Target) (x : ℕ) (d e : List ℕ) (h : Handed) (s : BatchStepped a τ x d e h) (v : Valid a) (z : Proper τ) (i : x ≤ last-position)
     (size : 65536 ≡ length d) where
   abbrev the-call : TextCall
   the-call = record { from = x; before = d; after = e; result = h }

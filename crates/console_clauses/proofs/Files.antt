@@ -10,8 +10,8 @@ use Rattle.refusals.specs.declared.Refusal.{Refusal}
 use Rattle.refusals.specs.Refused.{codeOf}
 use Rattle.automaton.specs.Value.{Valid}
 use Rattle.clause_sizes.specs.declared.Target.{Target}
-use Rattle.clause_sizes.specs.Targets.{Dimensioned}
-use Rattle.clause_sizes.specs.Sizes.{Refuses, outside, dimensions}
+use Rattle.clause_sizes.specs.Targets.{Proper}
+use Rattle.clause_sizes.specs.Sizes.{Refuses, outside, dimensions, past-sets}
 use Rattle.clause_header.specs.declared.Totals.{Totals}
 use Rattle.clause_header.specs.declared.Totals.the-variants.{Of, Refused}
 use Rattle.clause_header.specs.Header.{Headed}
@@ -24,18 +24,24 @@ use Rattle.console_clauses.specs.Prints.{headerText, HandsFile}
 use Rattle.console_clauses.specs.Batch.{HandsBehind}
 
 module _ {a : Automaton} {τ : Target} where
-  accepted-not : {f : Refusal} {c : Option Code} → Valid a → Dimensioned τ → Refuses a τ f c → ⊥
+  accepted-not : {f : Refusal} {c : Option Code} → Valid a → Proper τ → Refuses a τ f c → ⊥
   accepted-not v z (outside h) = h v
-  accepted-not v z (dimensions w h) = h z
+  accepted-not v z (dimensions w h) = h (z .dimensioned)
+  accepted-not v z (past-sets w d h) = h (z .own-sets)
 
   one-refusal : {f g : Refusal} {c d : Option Code} → Refuses a τ f c → Refuses a τ g d → f ≡ g
   one-refusal (outside h) (outside k) = refl
   one-refusal (outside h) (dimensions v k) = absurd (h v)
+  one-refusal (outside h) (past-sets v d k) = refl
   one-refusal (dimensions v h) (outside k) = absurd (k v)
   one-refusal (dimensions v h) (dimensions w k) = refl
+  one-refusal (dimensions v h) (past-sets w d k) = absurd (h d)
+  one-refusal (past-sets v d h) (outside k) = refl
+  one-refusal (past-sets v d h) (dimensions w k) = absurd (k d)
+  one-refusal (past-sets v d h) (past-sets w e k) = refl
 
   module _ (t : Totals) (h : Headed a τ t) where
-    pub admitted : {last count : ℕ} → t ≡ Of last count → Valid a × Dimensioned τ
+    pub admitted : {last count : ℕ} → t ≡ Of last count → Valid a × Proper τ
     admitted e = let (v, z, k) = subst (Headed a τ) e h in (v, z)
 
     pub file-handed : {last count : ℕ} {header : Printed} {r : Printout} → t ≡ Of last count → Hands (headerLine last count) header → HandsBehind a τ header r

@@ -11,7 +11,7 @@ use Rattle.encoding.specs.Clauses.{each}
 use Rattle.encoding.specs.Positions.{positions, at-position}
 use Rattle.encoding.specs.ByPosition.{at-most-one}
 use Rattle.clause_sizes.specs.declared.Target.{Target}
-use Rattle.clause_sizes.specs.Targets.{Dimensioned, task, numbers}
+use Rattle.clause_sizes.specs.Targets.{Proper, task, numbers}
 use Rattle.clause_list.specs.Next.{clauses-from}
 use Rattle.clause_step.specs.Step.{last-position}
 use Rattle.clause_step.specs.Range.{positions-le}
@@ -46,7 +46,7 @@ unfolding each
 each-le zero f h = omega arith
 each-le (suc k) f h = omega (arith, length-append (each k f) (f k), h k, each-le k f h)
 
-pub left-le : {a : Automaton} {τ : Target} → Valid a → Dimensioned τ → (x : ℕ) → left a τ x ≤ last-position
+pub left-le : {a : Automaton} {τ : Target} → Valid a → Proper τ → (x : ℕ) → left a τ x ≤ last-position
 unfolding clauses-from
 left-le {a} {τ} v d x =
     let T = task a τ in
@@ -54,5 +54,5 @@ left-le {a} {τ} v d x =
     omega (arith, each-le (positions T num - x) (λ i. at-position T num (x + i)) (λ i. at-most-one T num (x + i)), positions-le v d)
 
 -- at 65,536 bytes for each, they have less than 2 ^ 64, those of a header before them included
-pub start-le : {a : Automaton} {τ : Target} {k : ℕ} → Valid a → Dimensioned τ → k ≤ 80 → (x : ℕ) → k + 65536 * left a τ x ≤ 80 + 65536 * 8657059969
+pub start-le : {a : Automaton} {τ : Target} {k : ℕ} → Valid a → Proper τ → k ≤ 80 → (x : ℕ) → k + 65536 * left a τ x ≤ 80 + 65536 * 8657059969
 start-le v d h x = omega (arith, h, left-le v d x)

@@ -8,7 +8,7 @@ use lib.ListN.{length}
 use Rattle.automaton.specs.declared.Automaton.{Automaton}
 use Rattle.automaton.specs.Value.{Valid}
 use Rattle.clause_sizes.specs.declared.Target.{Target}
-use Rattle.clause_sizes.specs.Targets.{Dimensioned}
+use Rattle.clause_sizes.specs.Targets.{Proper}
 use Rattle.clause_step.specs.declared.Answer.{Answer}
 use Rattle.clause_step.specs.declared.Answer.the-variants.{Written, Ended, Refused}
 use Rattle.clause_text.specs.Batches.{TextCall, all-bytes, LinesOut}
@@ -31,7 +31,7 @@ the-ended (c ∷ cs) e = go (ended (c .result .answer)) refl e (λ f. the-ended 
     go true f e later = (c, List·Memᴰ·head refl, ended-is (c .result .answer) f)
     go false f e later = let (d, j, q) = later e in (d, List·Memᴰ·tail j, q)
 
-module _ {a : Automaton} {τ : Target} {r : Printout} (v : Valid a) (z : Dimensioned τ) (h : HandsFile a τ r) where
+module _ {a : Automaton} {τ : Target} {r : Printout} (v : Valid a) (z : Proper τ) (h : HandsFile a τ r) where
   abbrev handed : HandsLines a τ r
   handed = h .file v z
 

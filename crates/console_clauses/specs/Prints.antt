@@ -11,7 +11,7 @@ use Rattle.refusals.specs.declared.Refusal.{Refusal}
 use Rattle.refusals.specs.Refused.{codeOf}
 use Rattle.automaton.specs.Value.{Valid}
 use Rattle.clause_sizes.specs.declared.Target.{Target}
-use Rattle.clause_sizes.specs.Targets.{Dimensioned, last, file}
+use Rattle.clause_sizes.specs.Targets.{Proper, last, file}
 use Rattle.clause_sizes.specs.Sizes.{Refuses}
 use Rattle.clause_step.specs.declared.Answer.{Answer}
 use Rattle.clause_step.specs.declared.Answer.the-variants.{Written, Ended, Refused}
@@ -59,5 +59,5 @@ pub record HandsLines (a : Automaton) (τ : Target) (r : Printout) : Type 0 wher
 
 -- the file, or the line of a refusal
 pub record HandsFile (a : Automaton) (τ : Target) (r : Printout) : Type 0 where
-  pub file : Valid a → Dimensioned τ → HandsLines a τ r
+  pub file : Valid a → Proper τ → HandsLines a τ r
   pub refused : (f : Refusal) → Refuses a τ f (some (codeOf f)) → (r .whole ≡ false) × (r .bytes ≡ length (refusedLine f))

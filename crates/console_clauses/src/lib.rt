@@ -1,4 +1,4 @@
-// The clause file as the program prints it, batch after batch.
+// The clause file as the programs print it, batch after batch.
 use automaton::Automaton;
 use clause_header::Totals;
 use clause_header::header;
@@ -18,7 +18,7 @@ ghost use mathlib.Core.Bool.{false};
 ghost use Prim.Native.Nat.{_≤_};
 ghost use lib.ListN.{length as count};
 ghost use Rattle.automaton.specs.Value.{Valid};
-ghost use Rattle.clause_sizes.specs.Targets.{Dimensioned};
+ghost use Rattle.clause_sizes.specs.Targets.{Proper};
 ghost use Rattle.console_report.specs.Lines.{headerLine, refusedLine};
 ghost use Rattle.console_print.specs.Handed.{Hands};
 ghost use Rattle.console_clauses.specs.Prints.{HandsFile};
@@ -31,8 +31,8 @@ pub struct Printout {
     pub bytes: u64,
 }
 
-// Prints the clause file, header first, or its refusal. Nothing comes behind bytes that the output did not take.
-pub fn print_file(reference: Automaton, target: Target) -> Printout
+// Prints the clause file, header first, or its refusal, which speaks of the program's arguments. Nothing comes behind bytes that the output did not take.
+pub fn print_file(reference: Automaton, target: Target, program: &[u8]) -> Printout
     ensures { λ r. ⌜ HandsFile reference target r ⌝ }
 {
     let totals = header(reference, target);
@@ -41,14 +41,14 @@ pub fn print_file(reference: Automaton, target: Target) -> Printout
             let header = print_header(variables, clauses);
             print_clauses(reference, target, header)
         }
-        Totals::Refused(x) => print_refusal(x),
+        Totals::Refused(x) => print_refusal(x, program),
     }
 }
 
-fn print_refusal(x: Refusal) -> Printout
+fn print_refusal(x: Refusal, program: &[u8]) -> Printout
     ensures { λ r. ⌜ (r .whole ≡ false) × (r .bytes ≡ count (refusedLine x)) ⌝ }
 {
-    let refused = refuse(x, b"hoa_clauses", Place::first());
+    let refused = refuse(x, program, Place::first());
     let line = refused.line;
     Printout {
         headed: false,
@@ -69,7 +69,7 @@ fn print_header(variables: u64, clauses: u64) -> Printed
 // No batch follows a header that the output did not take. Each batch leaves fewer clauses, and has at most 65,536 bytes.
 fn print_clauses(reference: Automaton, target: Target, header: Printed) -> Printout
     requires { ⌜ Valid reference ⌝ }
-    requires { ⌜ Dimensioned target ⌝ }
+    requires { ⌜ Proper target ⌝ }
     requires { ⌜ header .length ≤ 80 ⌝ }
     ensures { λ r. ⌜ HandsBehind reference target header r ⌝ }
 {
@@ -108,7 +108,7 @@ struct Next {
 // As many lines as a buffer holds. It has room for one, so that the call is not refused.
 fn print_batch(reference: Automaton, target: Target, position: u64) -> Next
     requires { ⌜ Valid reference ⌝ }
-    requires { ⌜ Dimensioned target ⌝ }
+    requires { ⌜ Proper target ⌝ }
     requires { ⌜ position ≤ 8657059969 ⌝ }
     ensures { λ r. ⌜ HandsBatch reference target position r ⌝ }
 {
@@ -133,7 +133,7 @@ fn print_batch(reference: Automaton, target: Target, position: u64) -> Next
             length: 0,
         },
         Answer::Refused(x) => {
-            refuse(x, b"hoa_clauses", Place::first());
+            refuse(x, b"clauses", Place::first());
             Next {
                 more: false,
                 ended: false,

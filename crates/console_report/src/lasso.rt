@@ -11,8 +11,8 @@ ghost use Rattle.decimal.specs.Wrote.{Wrote};
 ghost use Rattle.console_report.specs.Lines.{row, wordLines};
 ghost use Rattle.console_report.specs.Spaced.{spaced};
 
-// Bytes of a lent buffer: more than the lines of any word have.
-pub const WORD: usize = 8192;
+// Bytes of a lent buffer: for each letter a space and at most three digits, for each line its name and a line feed.
+pub const WORD: usize = 4 * (Comparison::PREFIX + Comparison::LOOP) + 12;
 
 // `prefix ..` and `loop ..`: the first letters of the two buffers, as many as the lengths say.
 pub fn word_lines(

@@ -1,6 +1,6 @@
 -- The line that is chosen is the pattern of the refusal, and what it is filled to has room.
 use mathlib.Core.Path.{_≡_, refl, ap, ap₂, _∙_, subst}
-use mathlib.Core.Bool.{Bool, true, false, cond, _&&_, _||_}
+use mathlib.Core.Bool.{Bool, true, false, cond, _&&_}
 use mathlib.Core.List.{List, [], _∷_, _++_}
 use Prim.Native.Nat.{ℕ, _≤_}
 use Prim.Native.String.{String}
@@ -9,7 +9,7 @@ use borrow.Author.Tests.{leb-true}
 use lib.Dec.{eqb, leb}
 use Rattle.refusals.specs.declared.Code.{Code}
 use Rattle.refusals.specs.declared.Refusal.{Refusal}
-use Rattle.refusals.specs.declared.Refusal.the-variants.{Form, Size, Item, Undeclared, Outside, Body, SecondEdge, NoEdge, Dimensions, SolverForm, Literal, NoStep, Differ, Short, Propositions}
+use Rattle.refusals.specs.declared.Refusal.the-variants.{Form, Size, Item, OtherAcceptance, Undeclared, Outside, Body, SecondEdge, NoEdge, Dimensions, SolverForm, Literal, NoStep, Differ, Short, Propositions}
 use Rattle.refusals.specs.Refused.{codeOf}
 use Rattle.automaton.specs.Bytes.{bytes}
 use Rattle.decimal.specs.Wrote.{Wrote}
@@ -28,12 +28,12 @@ joined (w ∷ ws) = bytes w ++ joined ws
 abbrev pub patterns : List ℕ
 patterns =
     joined
-    (pattern Outside (seen 0) ∷ pattern (Form 0) (seen 0) ∷ pattern (Size 0) (seen 0) ∷ pattern (Item 0) (seen 0) ∷ pattern (Undeclared 1) (seen 0)
+    (pattern Outside (seen 0) ∷ pattern (Form 0) (seen 0) ∷ pattern (Size 0) (seen 0) ∷ pattern (Item 1) (seen 0) ∷ pattern (Undeclared 1) (seen 0)
     ∷ pattern (Body 0 0) (seen 0) ∷ pattern (SecondEdge 0 0) (seen 0) ∷ pattern (NoEdge 0 0) (seen 0) ∷ pattern (Dimensions 0 0) (seen 0)
     ∷ pattern (SolverForm 0) (seen 0) ∷ pattern (Literal 0) (seen 0) ∷ pattern (NoStep 0 0) (seen 0) ∷ pattern (Differ 0 0) (seen 0)
     ∷ pattern (Short 0 0) (seen 0) ∷ pattern (Propositions 0 0) (seen 0)
     ∷ pattern (Form 0) (seen 256) ∷ pattern (Size 65536) (seen 0) ∷ pattern (Size 0) (seen 48) ∷ pattern (Size 0) (seen 34)
-    ∷ pattern (Item 0) (seen 45) ∷ pattern (Item 0) (seen 34) ∷ pattern (Item 0) (seen 83) ∷ pattern (Body 0 0) (seen 256) ∷ pattern (Form 0) (seen 48)
+    ∷ pattern (Item 1) (seen 45) ∷ pattern (Item 1) (seen 34) ∷ pattern OtherAcceptance (seen 0) ∷ pattern (Body 0 0) (seen 256) ∷ pattern (Form 0) (seen 48)
     ∷ pattern (Form 0) (seen 91) ∷ [])
 
 abbrev pub at : ℕ → List ℕ
@@ -59,8 +59,9 @@ chosen (Size o) p =
     either (eqb o 65536) (there refl refl)
     (either (leb 48 (p .byte) && leb (p .byte) 57) (there refl refl) (either (eqb (p .byte) 34) (there refl refl) (there refl refl)))
 chosen (Item o) p =
-    either (eqb (p .byte) 45) (there refl refl)
-    (either (eqb (p .byte) 34) (there refl refl) (either (eqb (p .byte) 83 || eqb (p .byte) 65) (there refl refl) (there refl refl)))
+    either (eqb o 0) (there refl refl)
+    (either (eqb (p .byte) 45) (there refl refl) (either (eqb (p .byte) 34) (there refl refl) (there refl refl)))
+chosen OtherAcceptance p = there refl refl
 chosen (Undeclared o) p = either (eqb o 0) (there refl refl) (there refl refl)
 chosen Outside p = there refl refl
 chosen (Body o q) p = either (eqb (p .byte) 256) (there refl refl) (there refl refl)

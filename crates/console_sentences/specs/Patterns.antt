@@ -15,14 +15,14 @@ formLine b = cond (eqb b 256) 15 (cond (leb 48 b && leb b 57) 23 (cond (eqb b 91
 abbrev pub sizeLine : ℕ → ℕ → ℕ
 sizeLine o b = cond (eqb o 65536) 16 (cond (leb 48 b && leb b 57) 17 (cond (eqb b 34) 18 2))
 
-abbrev pub itemLine : ℕ → ℕ
-itemLine b = cond (eqb b 45) 19 (cond (eqb b 34) 20 (cond (eqb b 83 || eqb b 65) 21 3))
+abbrev pub itemLine : ℕ → ℕ → ℕ
+itemLine o b = cond (eqb o 0) 21 (cond (eqb b 45) 19 (cond (eqb b 34) 20 3))
 
 abbrev pub lineOf : Code → ℕ → ℕ
 lineOf c b =
     cond (eqb (c .number) 1) (formLine b)
     (cond (eqb (c .number) 2) (sizeLine (c .first) b)
-    (cond (eqb (c .number) 3) (itemLine b)
+    (cond (eqb (c .number) 3) (itemLine (c .first) b)
     (cond (eqb (c .number) 4) (cond (eqb (c .first) 0) 0 4)
     (cond (eqb (c .number) 5) (cond (eqb b 256) 22 5) (c .number)))))
 

@@ -1,5 +1,5 @@
 -- DEFINITION: the sentence that says in words why something was turned down, as bytes. A refusal can have several causes; what stands at its place tells most of them apart.
-use mathlib.Core.Bool.{Bool, cond, _&&_, _||_}
+use mathlib.Core.Bool.{Bool, cond, _&&_}
 use mathlib.Core.List.{List, [], _∷_, _++_}
 use Prim.Native.Char.{Char, code}
 use Prim.Native.Nat.{ℕ}
@@ -7,7 +7,7 @@ use Prim.Native.String.{String}
 use lib.Dec.{eqb, leb}
 use Rattle.refusals.specs.declared.Code.{Code}
 use Rattle.refusals.specs.declared.Refusal.{Refusal}
-use Rattle.refusals.specs.declared.Refusal.the-variants.{Form, Size, Item, Undeclared, Outside, Body, SecondEdge, NoEdge, Dimensions, SolverForm, Literal, NoStep, Differ, Short, Propositions}
+use Rattle.refusals.specs.declared.Refusal.the-variants.{Form, Size, Item, OtherAcceptance, Undeclared, Outside, Body, SecondEdge, NoEdge, Dimensions, SolverForm, Literal, NoStep, Differ, Short, Propositions}
 use Rattle.refusals.specs.Refused.{codeOf}
 use Rattle.decimal.specs.Decimal.{decimal}
 use Rattle.automaton.specs.Bytes.{bytes}
@@ -39,12 +39,15 @@ stands b p = eqb (p .byte) (code b)
 
 -- ---- one line for each refusal; p is the place of its offset, where it has one
 
--- with offset 0, 4 is "an automaton handed over as a value"
+-- with offset 0, 3 and 4 are of an automaton that was handed over as a value
+abbrev pub otherAcceptance : String
+otherAcceptance = "the table's acceptance is not Inf of all its sets.\n"
+
 abbrev pub outside : String
 outside = "the value lies outside the automata that are allowed.\n"
 
 -- 2 stands at the number of `States:`, `AP:` or `Acceptance:`, at a quoted name, and at the `!` or `(` that nests too deep. 3 stands at the item name that comes
--- again, at the second of two quoted names, at `--BODY--`, and at any token that departs from an acceptance. 5 stands at a number, or at the text's end.
+-- again, at the second of two quoted names, and at `--BODY--`. 5 stands at a number, or at the text's end.
 abbrev pub pattern : Refusal → Place → String
 pattern (Form o) p =
     cond (ends p) "line @, column ~: the HOA text ends too soon.\n"
@@ -57,12 +60,13 @@ pattern (Size o) p =
     (cond (stands "\"" p) "line @, column ~: a name that does not have 1 to 16 bytes.\n"
     "line @, column ~: the signs ! and ( nest more than 32 deep.\n"))
 pattern (Item o) p =
-    cond (stands "-" p) "line @, column ~: States, Start or Acceptance is missing, or the acceptance is not 0 t, 1 Inf(0), 2 Inf(0)&Inf(1) and so on up to 4.\n"
-    (cond (stands "\"" p) "line @, column ~: two propositions have one name, or the acceptance is not 0 t, 1 Inf(0), 2 Inf(0)&Inf(1) and so on up to 4.\n"
-    (cond (stands "S" p || stands "A" p) "line @, column ~: an item is given twice, or the acceptance is not 0 t, 1 Inf(0), 2 Inf(0)&Inf(1) and so on up to 4.\n"
-    "line @, column ~: the acceptance is not 0 t, 1 Inf(0), 2 Inf(0)&Inf(1) and so on up to 4.\n"))
+    cond (eqb o 0) otherAcceptance
+    (cond (stands "-" p) "line @, column ~: States, Start or Acceptance is missing.\n"
+    (cond (stands "\"" p) "line @, column ~: two propositions have one name.\n"
+    "line @, column ~: an item is given twice.\n"))
+pattern OtherAcceptance p = otherAcceptance
 pattern (Undeclared o) p =
-    cond (eqb o 0) outside "line @, column ~: a state, proposition or mark that was not declared (numbers begin at 0).\n"
+    cond (eqb o 0) outside "line @, column ~: a state, proposition, mark or set that was not declared (numbers begin at 0).\n"
 pattern Outside p = outside
 pattern (Body o q) p = cond (ends p) "state $ has no body.\n" "line @, column ~: state $ has a second body.\n"
 pattern (SecondEdge q l) p = "state # has a second edge for letter $.\n"

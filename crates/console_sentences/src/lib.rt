@@ -36,7 +36,7 @@ fn line_of(code: Code, stands: usize) -> usize
     match number {
         1 => form_line(stands),
         2 => size_line(first, stands),
-        3 => item_line(stands),
+        3 => item_line(first, stands),
         4 => if first == 0 { say::OUTSIDE } else { 4 },
         5 => if stands == UNSEEN { say::NO_BODY } else { 5 },
         _ => number,
@@ -71,15 +71,16 @@ fn size_line(offset: usize, stands: usize) -> usize
     }
 }
 
-// At `-` (45) the body, at a quote (34) a name, at `S` (83) or `A` (65) an item that may come once.
-fn item_line(stands: usize) -> usize
-    ensures { λ r. ⌜ r ≡ itemLine stands ⌝ }
+// At `-` (45) the body, at a quote (34) a name, elsewhere the name of an item.
+fn item_line(offset: usize, stands: usize) -> usize
+    ensures { λ r. ⌜ r ≡ itemLine offset stands ⌝ }
 {
+    if offset == 0 {
+        return say::OTHER_ACCEPTANCE;
+    }
     match stands {
         45 => say::MISSING,
         34 => say::ALIKE,
-        83 => say::TWICE,
-        65 => say::TWICE,
         _ => 3,
     }
 }

@@ -1,11 +1,11 @@
 // The patterns of the sentences, one to a line. Their marks stand for numbers: `@` for the line of a place and `~` for its column, `#` and `$`
 // for the two values of a refusal. Lines 1 to 14 have document 01's numbers.
-pub const PATTERNS: [u8; 1800] = *b"\
+pub const PATTERNS: [u8; 1541] = *b"\
     the value lies outside the automata that are allowed.\n\
     line @, column ~: the HOA text cannot go on like this.\n\
     line @, column ~: the signs ! and ( nest more than 32 deep.\n\
-    line @, column ~: the acceptance is not 0 t, 1 Inf(0), 2 Inf(0)&Inf(1) and so on up to 4.\n\
-    line @, column ~: a state, proposition or mark that was not declared (numbers begin at 0).\n\
+    line @, column ~: an item is given twice.\n\
+    line @, column ~: a state, proposition, mark or set that was not declared (numbers begin at 0).\n\
     line @, column ~: state $ has a second body.\n\
     state # has a second edge for letter $.\n\
     state # has no edge for letter $.\n\
@@ -20,14 +20,14 @@ pub const PATTERNS: [u8; 1800] = *b"\
     line @, column ~: the HOA text has more than 65,536 bytes.\n\
     line @, column ~: a count outside its limits (1 to 16 states, at most 4 propositions, at most 4 sets).\n\
     line @, column ~: a name that does not have 1 to 16 bytes.\n\
-    line @, column ~: States, Start or Acceptance is missing, or the acceptance is not 0 t, 1 Inf(0), 2 Inf(0)&Inf(1) and so on up to 4.\n\
-    line @, column ~: two propositions have one name, or the acceptance is not 0 t, 1 Inf(0), 2 Inf(0)&Inf(1) and so on up to 4.\n\
-    line @, column ~: an item is given twice, or the acceptance is not 0 t, 1 Inf(0), 2 Inf(0)&Inf(1) and so on up to 4.\n\
+    line @, column ~: States, Start or Acceptance is missing.\n\
+    line @, column ~: two propositions have one name.\n\
+    the table's acceptance is not Inf of all its sets.\n\
     state $ has no body.\n\
     line @, column ~: a number that cannot stand here, or has a leading zero; the edges of a state all have labels, or none has and there is one for each letter.\n\
     line @, column ~: a label that cannot stand here; the edges of a state all have labels, or none has.\n";
 
-// The other lines: a value that was handed over, and the causes that what stands at a place tells.
+// The other lines: values that were handed over, and the causes that what stands at a place tells.
 pub const OUTSIDE: usize = 0;
 
 pub const TOO_SOON: usize = 15;
@@ -42,7 +42,7 @@ pub const MISSING: usize = 19;
 
 pub const ALIKE: usize = 20;
 
-pub const TWICE: usize = 21;
+pub const OTHER_ACCEPTANCE: usize = 21;
 
 pub const NO_BODY: usize = 22;
 

@@ -13,8 +13,9 @@ use Rattle.encoding.specs.Clauses.{each, only, not-marks, totality, initial, su
 use Rattle.encoding.specs.Satisfaction.{no-literal, one-literal, premise}
 use Rattle.decimal.specs.Decimal.{decimal}
 use Rattle.clause_sizes.specs.declared.Target.{Target}
-use Rattle.clause_sizes.specs.Targets.{Dimensioned, last, file}
-use Rattle.clause_sizes.specs.Sizes.{outside, dimensions}
+use Rattle.clause_sizes.specs.Limits.{every-proper}
+use Rattle.clause_sizes.specs.Targets.{every, Proper, last, file}
+use Rattle.clause_sizes.specs.Sizes.{outside, dimensions, past-sets}
 use Rattle.clause_header.specs.declared.Totals.{Totals}
 use Rattle.clause_header.specs.declared.Totals.the-variants.{Of, Refused}
 use Rattle.clause_header.specs.Header.{Headed}
@@ -29,17 +30,18 @@ use Rattle.hoa_text.specs.Reading.{read}
 use Rattle.hoa_text.specs.Accepted.{accepted-valid}
 use Rattle.hoa_text.specs.Examples.{one-state}
 use Rattle.console_report.specs.Lines.{headerLine}
-use Rattle.decks.specs.Words.{target, Satisfiable, headerText, Prints}
+use Rattle.decks.specs.Words.{Satisfiable, headerText, Prints}
 
 -- ---- what the calls write is the text of the file
-module _ {a : Automaton} {τ : Target} (v : Valid a) (d : Dimensioned τ) where
+module _ {a : Automaton} {τ : Target} (v : Valid a) (d : Proper τ) where
   abbrev counted : List ℕ
   counted = headerLine (last a τ) (length (file a τ))
 
   totals-text : (t : Totals) → Headed a τ t → headerText t ≡ counted
   totals-text (Of variables clauses) (w, e, (p, q)) = ap₂ headerLine p q
   totals-text (Refused f) (outside w) = absurd (w v)
-  totals-text (Refused f) (dimensions w e) = absurd (e d)
+  totals-text (Refused f) (dimensions w e) = absurd (e (d .dimensioned))
+  totals-text (Refused f) (past-sets w e o) = absurd (o (d .own-sets))
 
   prints : {text : List ℕ} → counted ++ linesText (file a τ) ≡ text → Prints a τ text
   prints e = record {
@@ -50,15 +52,15 @@ module _ {a : Automaton} {τ : Target} (v : Valid a) (d : Dimensioned τ) where
 -- ---- the deck
 
 pub first-read : read (bytes "HOA: v1 States: 1 Start: 0 Acceptance: 1 Inf(0) --BODY-- State: 0 [t] 0 --END--") ≡ gives one-state
-unfolding read itemRead bodyRead deepest
+unfolding read itemRead bodyRead deepest set-of
 first-read = refl
 
-pub first-prints : Prints one-state (target 1 0) (bytes "p cnf 3 6\n1 0\n2 0\n-2 -1 2 0\n-2 -1 2 0\n-3 -1 3 0\n-2 -1 0\n")
+pub first-prints : Prints one-state (every 1 0) (bytes "p cnf 3 6\n1 0\n2 0\n-2 -1 2 0\n-2 -1 2 0\n-3 -1 3 0\n-2 -1 0\n")
 unfolding each only set-of not-marks totality initial successor extension closure exactly-one group₁ group₂ group₃ group₄ task-file xor decimal
-first-prints = prints (accepted-valid _ first-read) (record { n-some = omega arith; n-le = omega arith; m-le = omega arith }) refl
+first-prints = prints (accepted-valid _ first-read) (every-proper (record { n-some = omega arith; n-le = omega arith; m-le = omega arith })) refl
 
 -- the clauses `1`, `2` and `-2 -1` cannot hold together
-pub first-none : ¬ Satisfiable one-state (target 1 0)
+pub first-none : ¬ Satisfiable one-state (every 1 0)
 unfolding each only set-of not-marks totality initial successor extension closure exactly-one group₁ group₂ group₃ group₄ task-file xor
 first-none (ν, s) =
     let one = one-literal ν 1 .0 (s _ (List·Memᴰ·head refl)) in

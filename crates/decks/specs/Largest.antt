@@ -8,14 +8,13 @@ use Rattle.automaton.specs.Tests.{fits, passes}
 use Rattle.automaton.specs.Value.{Valid}
 use Rattle.automaton.specs.Meant.{fits-valid}
 use Rattle.clause_sizes.specs.declared.Target.{Target}
-use Rattle.clause_sizes.specs.Targets.{Dimensioned, last}
+use Rattle.clause_sizes.specs.Targets.{every, Proper, last}
 use Rattle.clause_sizes.specs.Limits.{sizes-fit, last-le}
-use Rattle.decks.specs.Words.{target}
 
-pub at-most : {a : Automaton} {τ : Target} → Valid a → Dimensioned τ → last a τ ≤ 4_199_424
+pub at-most : {a : Automaton} {τ : Target} → Valid a → Proper τ → last a τ ≤ 4_199_424
 at-most v d = last-le (sizes-fit v d)
 
-pub met : (a : Automaton) → a .states ≡ 16 → a .propositions ≡ 4 → a .sets ≡ 4 → last a (target 8 4) ≡ 4_199_424
+pub met : (a : Automaton) → a .states ≡ 16 → a .propositions ≡ 4 → a .sets ≡ 4 → last a (every 8 4) ≡ 4_199_424
 met a r k s = rw (r, k, s)
 
 abbrev pub largest : Automaton

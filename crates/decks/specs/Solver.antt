@@ -9,7 +9,7 @@ use Rattle.refusals.specs.declared.Refusal.{Refusal}
 use Rattle.refusals.specs.Refused.{codeOf}
 use Rattle.automaton.specs.Value.{Valid}
 use Rattle.clause_sizes.specs.declared.Target.{Target}
-use Rattle.clause_sizes.specs.Targets.{Dimensioned, last, kept}
+use Rattle.clause_sizes.specs.Targets.{Proper, last, kept}
 use Rattle.compare.specs.Compared.{prefixRoom, loopRoom}
 use Rattle.solver_text.specs.declared.Reader.{Reader}
 use Rattle.solver_text.specs.declared.Reply.{Reply}
@@ -24,7 +24,7 @@ use Rattle.decode.specs.declared.Decoded.{Decoded}
 use Rattle.decode.specs.Answers.{whole, Decodes, Admitted, ByAssignment}
 use Rattle.decks.specs.Words.{HasRead, SolverTextRefused}
 
-module _ {a : Automaton} {τ : Target} (v : Valid a) (z : Dimensioned τ) {text : List ℕ} {q : Reader} (h : HasRead a τ text q) where
+module _ {a : Automaton} {τ : Target} (v : Valid a) (z : Proper τ) {text : List ℕ} {q : Reader} (h : HasRead a τ text q) where
   in-range : InRange q
   in-range = reads-range v z (h .reads)
 
@@ -49,7 +49,7 @@ module _ {a : Automaton} {τ : Target} (v : Valid a) (z : Dimensioned τ) {text 
         (d .accepted admitted (t .accepted s e) .satisfiable (t .verdict s e ∙ k))
 
 -- a text with a fault
-pub text-refused : {a : Automaton} {τ : Target} → Valid a → Dimensioned τ → {text : List ℕ} {f : Refusal} → outcome (last a τ) (kept a τ) text ≡ refused f
+pub text-refused : {a : Automaton} {τ : Target} → Valid a → Proper τ → {text : List ℕ} {f : Refusal} → outcome (last a τ) (kept a τ) text ≡ refused f
     → SolverTextRefused a τ text (codeOf f)
 text-refused v z {f} e = record {
   refusal = f;

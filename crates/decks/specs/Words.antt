@@ -45,10 +45,6 @@ HoaTextRefused text c = (f : Refusal) × (codeOf f ≡ c) × (read text ≡ refu
 
 -- ---- the clause file for the reference a and the target
 
--- "(n, m)"
-abbrev pub target : ℕ → ℕ → Target
-target n m = record { states = n; sets = m }
-
 -- "V variables, C clauses"
 pub record Counts (a : Automaton) (τ : Target) (variables clauses : ℕ) : Type 0 where
   pub last-variable : last a τ ≡ variables

@@ -11,7 +11,7 @@ use Rattle.refusals.specs.declared.Refusal.the-variants.{Outside, Dimensions, S
 use Rattle.refusals.specs.Refused.{row}
 use Rattle.automaton.specs.Value.{Valid}
 use Rattle.clause_sizes.specs.declared.Target.{Target}
-use Rattle.clause_sizes.specs.Targets.{Dimensioned}
+use Rattle.clause_sizes.specs.Targets.{Proper}
 use Rattle.compare.specs.Compared.{prefixRoom, loopRoom}
 use Rattle.solver_text.specs.declared.Reader.{Reader}
 use Rattle.solver_text.specs.declared.Reply.{Reply}
@@ -68,6 +68,7 @@ module _ (a : Automaton) (τ : Target) (r : Reader) (p l : List ℕ) where
     automaton = λ g. absurd (omega arith);
     state = λ g. absurd (omega arith);
     dimensions = λ g. absurd (omega arith);
+    acceptance = λ g. absurd (omega arith);
     text = λ d. absurd (omega (arith, d .prefix-room));
     accepted = λ d. absurd (omega (arith, d .prefix-room));
   }
@@ -80,6 +81,7 @@ module _ (a : Automaton) (τ : Target) (r : Reader) (p l : List ℕ) where
       automaton = λ _ g. absurd (omega arith);
       state = λ _ g. absurd (omega arith);
       dimensions = λ _ g. absurd (omega arith);
+      acceptance = λ _ g. absurd (omega arith);
       text = λ d. absurd (omega (arith, d .loop-room));
       accepted = λ d. absurd (omega (arith, d .loop-room));
     }
@@ -93,6 +95,7 @@ module _ (a : Automaton) (τ : Target) (r : Reader) (p l : List ℕ) where
         automaton = λ _ _ k. untouched (same Outside (c .automaton k));
         state = λ _ _ k. untouched (same Outside (c .state k));
         dimensions = λ _ _ v s k. untouched (same (Dimensions (τ .states) (τ .sets)) (c .sizes v s k));
+        acceptance = λ _ _ v s d k. untouched (same Outside (c .acceptance v s d k));
         text = λ d g k. untouched (turned g (sym h ∙ ap (λ z. z .answer) (c .text (d .valid) (d .in-range) (d .sizes)) ∙ k));
         accepted = λ d k. clash f (sym k ∙ sym (ap (λ z. z .answer) (c .text (d .valid) (d .in-range) (d .sizes))) ∙ h);
       }
@@ -104,7 +107,7 @@ module _ (a : Automaton) (τ : Target) (r : Reader) (p l : List ℕ) where
           same g k = turned g (sym h ∙ ap (λ z. z .answer) k)
 
       -- or not
-      pub accepted-answer : {p′ l′ : List ℕ} {x : Decoded} → y .answer ≡ Accepted → (Valid a → Dimensioned τ → ByVerdict p p′ l l′ x a τ (y .reader))
+      pub accepted-answer : {p′ l′ : List ℕ} {x : Decoded} → y .answer ≡ Accepted → (Valid a → Proper τ → ByVerdict p p′ l l′ x a τ (y .reader))
           → Decodes p p′ l l′ x a τ r
       accepted-answer {p′} {l′} {x} h t = record {
         short-prefix = λ g. absurd (omega arith);
@@ -112,6 +115,7 @@ module _ (a : Automaton) (τ : Target) (r : Reader) (p l : List ℕ) where
         automaton = λ _ _ k. clash Outside (sym h ∙ ap (λ z. z .answer) (c .automaton k));
         state = λ _ _ k. clash Outside (sym h ∙ ap (λ z. z .answer) (c .state k));
         dimensions = λ _ _ v s k. clash (Dimensions (τ .states) (τ .sets)) (sym h ∙ ap (λ z. z .answer) (c .sizes v s k));
+        acceptance = λ _ _ v s d k. clash Outside (sym h ∙ ap (λ z. z .answer) (c .acceptance v s d k));
         text = λ d g k. clash g (sym h ∙ ap (λ z. z .answer) (c .text (d .valid) (d .in-range) (d .sizes)) ∙ k);
         accepted = λ d k. subst (λ z. ByVerdict p p′ l l′ x a τ (z .reader)) (c .text (d .valid) (d .in-range) (d .sizes)) (t (d .valid) (d .sizes));
       }

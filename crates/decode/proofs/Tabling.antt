@@ -14,16 +14,15 @@ use Rattle.refusals.specs.declared.Code.{Code}
 use Rattle.refusals.specs.declared.Refusal.{Refusal}
 use Rattle.refusals.specs.declared.Refusal.the-variants.{NoStep}
 use Rattle.automaton.specs.Value.{Valid, letters}
-use Rattle.automaton.specs.Acceptance.{every-set-is, every-set-mask}
 use Rattle.automaton.specs.Letters.{letters-le}
 use Rattle.automaton.specs.Rows.{rows-same}
 use Rattle.encoding.specs.Clauses.{Assignment, destination, marks-of}
 use Rattle.clause_sizes.specs.declared.Target.{Target}
-use Rattle.clause_sizes.specs.Targets.{Dimensioned}
+use Rattle.clause_sizes.specs.Targets.{Proper}
 use Rattle.clause_sizes.specs.declared.Sizes.{Sizes}
 use Rattle.clause_sizes.specs.declared.Sized.{Sized}
 use Rattle.clause_sizes.specs.declared.Sized.the-variants.{Refused as NoFile}
-use Rattle.clause_sizes.specs.Sizes.{Refuses, outside, dimensions, Sizing, Fitting, sizesOf, targetOf}
+use Rattle.clause_sizes.specs.Sizes.{Refuses, outside, dimensions, past-sets, Sizing, Fitting, sizesOf, targetOf}
 use Rattle.clause_sizes.specs.Limits.{sizes-fit}
 use Rattle.decode.specs.declared.Answer.the-variants.{Refused}
 use Rattle.decode.specs.declared.Decoded.{Decoded}
@@ -41,7 +40,7 @@ by-sizes a τ values = refl
 
 module _ {a : Automaton} {z : Sizes} (M : Measured a z) where
   pub fitting : Fitting z
-  fitting = subst Fitting (sym (M .sized)) (sizes-fit (M .valid) (M .dimensioned))
+  fitting = subst Fitting (sym (M .sized)) (sizes-fit (M .valid) (M .proper))
 
   table-is : (named : List ℕ) → tableBy z named ≡ decodedTable a (targetOf z) (λ v. eqb (getD named v 0) 1)
   table-is named = ap (λ x. tableBy x named) (M .sized) ∙ by-sizes a (targetOf z) named
@@ -108,7 +107,7 @@ module _ {a : Automaton} {z : Sizes} (M : Measured a z) (named : List ℕ) where
   ν v = eqb (getD named v 0) 1
 
   few : z .candidate .states ≤ 16
-  few = omega (arith, M .dimensioned .n-le)
+  few = omega (arith, M .proper .dimensioned .n-le)
 
   module _ {d s : List ℕ} {k : ℕ} (F : FilledTo (tableBy z named) d s k) where
     filled : FilledTo (decodedTable a τ ν) d s k
@@ -132,7 +131,7 @@ module _ {a : Automaton} {z : Sizes} (M : Measured a z) (named : List ℕ) where
             start = 0;
             propositions = a .propositions;
             sets = z .candidate .sets;
-            acceptance = (every-set-is (M .dimensioned .m-le) (ap (λ y. y .candidate .acceptance) (M .sized)) ∙ sym (every-set-mask (z .candidate .sets))) i;
+            acceptance = z .candidate .acceptance;
             lengths = a .lengths;
             names = a .names;
             destinations = ed i;
@@ -141,7 +140,7 @@ module _ {a : Automaton} {z : Sizes} (M : Measured a z) (named : List ℕ) where
 
       pub comparable : {C : Automaton} → C ≡ candidate a z d s → Comparable C a
       comparable e = subst (λ C. Comparable C a) (sym (e ∙ value-is)) (record {
-        valid-a = decoded-valid (M .valid) (M .dimensioned) ν (all-step a τ (M .valid) ν (filled .filled) all few);
+        valid-a = decoded-valid (M .valid) (M .proper) ν (all-step a τ (M .valid) ν (filled .filled) all few);
         valid-b = M .valid;
         same-propositions = refl;
       })
@@ -154,12 +153,13 @@ module _ {a : Automaton} {z : Sizes} (M : Measured a z) (named : List ℕ) where
 
 -- ---- the sizes of the file
 
-pub sizing-not : {a : Automaton} {τ : Target} {y : Sized} {f : Refusal} → Sizing a τ y → y ≡ NoFile f → Valid a → Dimensioned τ → ⊥
-sizing-not {a} {τ} s e v d = go (sizing-refused s e)
+pub sizing-not : {a : Automaton} {τ : Target} {y : Sized} {f : Refusal} → Sizing a τ y → y ≡ NoFile f → Valid a → Proper τ → ⊥
+sizing-not {a} {τ} s e v p = go (sizing-refused s e)
   where
     go : {f : Refusal} {c : Option Code} → Refuses a τ f c → ⊥
     go (outside h) = h v
-    go (dimensions w h) = h d
+    go (dimensions w h) = h (p .dimensioned)
+    go (past-sets w d h) = h (p .own-sets)
 
 pub assigned-answer : {a : Automaton} {τ : Target} {z : Sizes} {p p′ l l′ : List ℕ} {x : Decoded} (ν : Assignment) → z ≡ sizesOf a τ
     → ByAssignment p p′ l l′ x a (targetOf z) ν → ByAssignment p p′ l l′ x a τ ν

@@ -7,6 +7,7 @@ use Prim.Native.Nat.{ℕ, _≤_, _<_}
 use lib.Dec.{eqb}
 use lib.ListN.{length, getD}
 use Rattle.meaning.specs.Agreement.{Agree}
+use Rattle.acceptance.specs.Masks.{OwnSets}
 use Rattle.automaton.specs.declared.Automaton.{Automaton}
 use Rattle.refusals.specs.declared.Code.{Code}
 use Rattle.refusals.specs.declared.Refusal.{Refusal}
@@ -16,7 +17,7 @@ use Rattle.automaton.specs.Value.{Valid, empty}
 use Rattle.automaton.specs.View.{view}
 use Rattle.encoding.specs.Clauses.{Assignment}
 use Rattle.clause_sizes.specs.declared.Target.{Target}
-use Rattle.clause_sizes.specs.Targets.{Dimensioned, last, kept}
+use Rattle.clause_sizes.specs.Targets.{Dimensioned, Proper, last, kept}
 use Rattle.compare.specs.declared.Comparison.{Comparison}
 use Rattle.compare.specs.Compared.{Shown, prefixRoom, loopRoom}
 use Rattle.solver_text.specs.declared.Reader.{Reader}
@@ -96,10 +97,10 @@ module _ (prefix prefix-after loop loop-after : List ℕ) (x : Decoded) where
       pub loop-room : loopRoom ≤ length loop
       pub valid : Valid a
       pub in-range : InRange r
-      pub sizes : Dimensioned τ
+      pub sizes : Proper τ
 
-    -- "Order: 13 (prefix before loop), 4 for handed values, 8, then reading left to right, then 11, 14, 12." The text that the reader r has read
-    -- ends here.
+    -- "Order: 13 (prefix before loop), 4 for handed values, 8, then reading left to right, then 11, 14, 12." And of the named acceptance "a yes
+    -- past m: 4, 0, 0, after 8". The text that the reader r has read ends here.
     pub record Decodes : Type 0 where
       pub short-prefix : length prefix < prefixRoom → Untouched (without (Refused (Short prefixRoom (length prefix)))) (some (row 13 prefixRoom (length prefix)))
       pub short-loop : prefixRoom ≤ length prefix → length loop < loopRoom
@@ -108,6 +109,8 @@ module _ (prefix prefix-after loop loop-after : List ℕ) (x : Decoded) where
       pub state : prefixRoom ≤ length prefix → loopRoom ≤ length loop → ¬ InRange r → Untouched (without (Refused Outside)) (some (row 4 0 0))
       pub dimensions : prefixRoom ≤ length prefix → loopRoom ≤ length loop → Valid a → InRange r → ¬ Dimensioned τ
           → Untouched (without (Refused (Dimensions (τ .states) (τ .sets)))) (some (row 8 (τ .states) (τ .sets)))
+      pub acceptance : prefixRoom ≤ length prefix → loopRoom ≤ length loop → Valid a → InRange r → Dimensioned τ → ¬ OwnSets (τ .acceptance) (τ .sets)
+          → Untouched (without (Refused Outside)) (some (row 4 0 0))
       -- 9 and 10
       pub text : Admitted → (f : Refusal) → whole a τ r .answer ≡ TurnedDown f → Untouched (without (Refused f)) (some (codeOf f))
       pub accepted : Admitted → whole a τ r .answer ≡ Accepted → ByVerdict a τ (whole a τ r .reader)

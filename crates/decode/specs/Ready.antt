@@ -12,7 +12,7 @@ pub record Comparable (a b : Automaton) : Type 0 where
   pub valid-b : Valid b
   pub same-propositions : a .propositions ≡ b .propositions
 
--- a table with the propositions of the reference
+-- a table with the propositions of the reference and the named acceptance
 abbrev pub candidate : Automaton → Sizes → List ℕ → List ℕ → Automaton
 candidate a z destinations marks = record {
   states = z .candidate .states;

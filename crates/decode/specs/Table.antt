@@ -3,10 +3,9 @@
 use mathlib.Core.Path.{_≡_}
 use mathlib.Core.Logic.{_⊎_}
 use mathlib.Core.Bool.{true, _&&_, cond}
-use Prim.Native.Nat.{ℕ, _^_, _<_}
+use Prim.Native.Nat.{ℕ, _<_}
 use lib.Dec.{ltb}
 use Rattle.meaning.specs.Automata.{Aut}
-use Rattle.meaning.specs.BitSet.{has, set-of}
 use Rattle.automaton.specs.declared.Automaton.{Automaton}
 use Rattle.automaton.specs.Value.{rows, letters}
 use Rattle.encoding.specs.Variables.{step}
@@ -20,14 +19,14 @@ use Rattle.clause_sizes.specs.Targets.{task, numbers}
 abbrev pub entry : Aut → (ℕ → ℕ → ℕ) → ℕ → ℕ → ℕ
 entry C f q l = cond (ltb q (C .states) && ltb l (C .letters)) (f q l) 0
 
--- with the propositions of the reference: "proposition names are the reference's"; bit K of the acceptance is what C says of the set of marks K
-abbrev pub valueOf : Automaton → Aut → Automaton
-valueOf a C = record {
+-- with the propositions of the reference: "proposition names are the reference's"; and with the acceptance that was named
+abbrev pub valueOf : Automaton → Target → Aut → Automaton
+valueOf a τ C = record {
   states = C .states;
   start = C .start;
   propositions = a .propositions;
   sets = C .sets;
-  acceptance = set-of (2 ^ C .sets) (λ K. C .accept (has K));
+  acceptance = τ .acceptance;
   lengths = a .lengths;
   names = a .names;
   destinations = rows 16 (entry C (C .step));
@@ -42,7 +41,7 @@ abbrev pub decodedTable : Automaton → Target → Assignment → Aut
 decodedTable a τ ν = decoded (task a τ) (numbers a τ) ν
 
 abbrev pub decodedValue : Automaton → Target → Assignment → Automaton
-decodedValue a τ ν = valueOf a (decodedTable a τ ν)
+decodedValue a τ ν = valueOf a τ (decodedTable a τ ν)
 
 -- ---- "no true step, lowest"
 

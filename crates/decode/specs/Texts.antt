@@ -11,7 +11,7 @@ use Rattle.automaton.specs.declared.Automaton.{Automaton}
 use Rattle.automaton.specs.Value.{Valid}
 use Rattle.encoding.specs.Clauses.{Assignment, Satisfies}
 use Rattle.clause_sizes.specs.declared.Target.{Target}
-use Rattle.clause_sizes.specs.Targets.{Dimensioned, last, kept, file}
+use Rattle.clause_sizes.specs.Targets.{Proper, last, kept, file}
 use Rattle.compare.specs.Compared.{prefixRoom, loopRoom}
 use Rattle.solver_text.specs.declared.Reader.{Reader}
 use Rattle.solver_text.specs.declared.Reply.{Reply}
@@ -57,7 +57,7 @@ module _ (p p′ l l′ : List ℕ) (x : Decoded) (a : Automaton) (τ : Target) 
 
 -- ---- what the text says
 
-module _ {a : Automaton} {τ : Target} (v : Valid a) (z : Dimensioned τ) where
+module _ {a : Automaton} {τ : Target} (v : Valid a) (z : Proper τ) where
   in-range : {us : List (List ℕ)} {q : Reader} → Reads a τ fresh us q → InRange q
   in-range {us} k = subst InRange (sym (pieces v z fresh-range k)) (run-kept (last a τ) (kept a τ) fresh (joined us) fresh-range)
 
@@ -103,11 +103,11 @@ module _ {p p′ l l′ : List ℕ} {x : Decoded} {a : Automaton} {τ : Target} 
       assignment-same p p′ l l′ x a τ (λ k. asserted k (s .seen .literals)) ν (λ k h g. sym (s .named k h g)) (o .satisfiable (s .seen) (s .accepted) (s .verdict))
 
   -- where it satisfies the file, the table that it decodes to, and both buffers as they were
-  pub satisfying-answer : Valid a → Dimensioned τ → Satisfies ν (file a τ) → ByAssignment p p′ l l′ x a τ ν
+  pub satisfying-answer : Valid a → Proper τ → Satisfies ν (file a τ) → ByAssignment p p′ l l′ x a τ ν
       → Untouched p p′ l l′ x (found (decodedValue a τ ν)) none
   satisfying-answer v z s b = b .table (satisfying-steps v z ν s) .same (satisfying-found v z ν s .agrees)
 
-module _ {a : Automaton} {τ : Target} (v : Valid a) (z : Dimensioned τ) {p p′ l l′ : List ℕ} {x : Decoded} (hp : prefixRoom ≤ length p) (hl : loopRoom ≤ length l)
+module _ {a : Automaton} {τ : Target} (v : Valid a) (z : Proper τ) {p p′ l l′ : List ℕ} {x : Decoded} (hp : prefixRoom ≤ length p) (hl : loopRoom ≤ length l)
     (ν : Assignment) (s : Satisfies ν (file a τ)) where
   -- for every list of pieces that make up a text which states an assignment that satisfies the file
   module _ {us : List (List ℕ)} {q : Reader} (k : Reads a τ fresh us q) (t : States (last a τ) (kept a τ) (joined us) ν) where

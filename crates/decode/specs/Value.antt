@@ -4,15 +4,13 @@ use mathlib.Core.Path.{_≡_, refl, sym, ap, _∙_, subst}
 use mathlib.Core.Bool.{Bool}
 use Prim.Native.Nat.{ℕ, _≤_, _<_}
 use native.Mathlib.Omega.{arith}
-use Rattle.meaning.specs.Automata.{Aut, EverySet}
+use Rattle.meaning.specs.Automata.{Aut}
 use Rattle.meaning.specs.BitSet.{has}
 use Rattle.meaning.specs.MarkSets.{set-of-lt, has-set-of, set-of-same}
 use Rattle.automaton.specs.declared.Automaton.{Automaton}
 use Rattle.automaton.specs.Value.{Valid, letters, markSet}
 use Rattle.automaton.specs.Value.{destination as destinationOf}
 use Rattle.automaton.specs.View.{view}
-use Rattle.automaton.specs.ViewLaws.{view-every}
-use Rattle.automaton.specs.Acceptance.{every-set-mask}
 use Rattle.automaton.specs.Letters.{letters-le}
 use Rattle.automaton.specs.Rows.{rows-length, rows-at}
 use Rattle.encoding.specs.Variables.{step, mark}
@@ -20,7 +18,7 @@ use Rattle.encoding.specs.NamedFile.{step-first, mark-first}
 use Rattle.encoding.specs.Clauses.{Assignment, lowest, destination, marks-of, SameTable}
 use Rattle.encoding.specs.Lowest.{lowest-true, lowest-same, lowest-passes}
 use Rattle.clause_sizes.specs.declared.Target.{Target}
-use Rattle.clause_sizes.specs.Targets.{Dimensioned, numbers, kept, named}
+use Rattle.clause_sizes.specs.Targets.{Proper, numbers, kept, named}
 use Rattle.decode.specs.Table.{entry, decodedTable, decodedValue, Steps, AllStep}
 use Rattle.decode.specs.Entries.{entry-used, entry-unused, entries-equal}
 
@@ -38,7 +36,7 @@ module _ (a : Automaton) (τ : Target) (ν : Assignment) where
 
 -- ---- the value
 
-module _ {a : Automaton} {τ : Target} (v : Valid a) (z : Dimensioned τ) (ν : Assignment) (t : AllStep a τ ν) where
+module _ {a : Automaton} {τ : Target} (v : Valid a) (z : Proper τ) (ν : Assignment) (t : AllStep a τ ν) where
   abbrev C : Aut
   C = decodedTable a τ ν
 
@@ -46,18 +44,18 @@ module _ {a : Automaton} {τ : Target} (v : Valid a) (z : Dimensioned τ) (ν : 
   value = decodedValue a τ ν
 
   destination-is : (q l : ℕ) → q < τ .states → l < letters a → destinationOf value q l ≡ C .step q l
-  destination-is q l hq hl = rows-at 16 (entry C (C .step)) q l (omega (arith, z .n-le)) (omega (arith, letters-le v)) ∙ entry-used C (C .step) q l hq hl
+  destination-is q l hq hl = rows-at 16 (entry C (C .step)) q l (omega (arith, z .dimensioned .n-le)) (omega (arith, letters-le v)) ∙ entry-used C (C .step) q l hq hl
 
   marks-is : (q l : ℕ) → q < τ .states → l < letters a → markSet value q l ≡ marks-of C q l
-  marks-is q l hq hl = rows-at 16 (entry C (marks-of C)) q l (omega (arith, z .n-le)) (omega (arith, letters-le v)) ∙ entry-used C (marks-of C) q l hq hl
+  marks-is q l hq hl = rows-at 16 (entry C (marks-of C)) q l (omega (arith, z .dimensioned .n-le)) (omega (arith, letters-le v)) ∙ entry-used C (marks-of C) q l hq hl
 
   pub decoded-valid : Valid (decodedValue a τ ν)
   decoded-valid = record {
-    states-le = omega (arith, z .n-le);
-    start-lt = z .n-some;
+    states-le = omega (arith, z .dimensioned .n-le);
+    start-lt = z .dimensioned .n-some;
     propositions-le = v .propositions-le;
-    sets-le = z .m-le;
-    acceptance-is = every-set-mask (τ .sets);
+    sets-le = z .dimensioned .m-le;
+    own-sets = z .own-sets;
     destination-lt = λ q l hq hl. subst (λ p. p < τ .states) (sym (destination-is q l hq hl)) (steps-lead a τ ν q l (t q l hq hl));
     marks-lt = λ q l hq hl. omega (arith, marks-is q l hq hl, set-of-lt (τ .sets) (C .marks q l));
     name-some = v .name-some;
@@ -75,7 +73,6 @@ module _ {a : Automaton} {τ : Target} (v : Valid a) (z : Dimensioned τ) (ν : 
   }
 
   pub decoded-view : SameTable (view (decodedValue a τ ν)) (decodedTable a τ ν)
-  unfolding EverySet
   decoded-view = record {
     states = refl;
     letters = refl;
@@ -83,7 +80,7 @@ module _ {a : Automaton} {τ : Target} (v : Valid a) (z : Dimensioned τ) (ν : 
     start = refl;
     step = destination-is;
     marks = λ q l i hq hl hi. ap (λ s. has s i) (marks-is q l hq hl) ∙ has-set-of (τ .sets) (C .marks q l) i hi;
-    accept = view-every decoded-valid;
+    accept = λ S. refl;
   }
 
 -- ---- step and mark variables decide
@@ -117,7 +114,7 @@ module _ (a : Automaton) (τ : Target) (ν ξ : Assignment) (same : (k : ℕ) �
         start = 0;
         propositions = a .propositions;
         sets = τ .sets;
-        acceptance = decodedValue a τ ν .acceptance;
+        acceptance = τ .acceptance;
         lengths = a .lengths;
         names = a .names;
         destinations = d i;

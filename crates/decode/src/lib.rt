@@ -14,7 +14,7 @@ ghost use Rattle.automaton.specs.Value.{Valid};
 ghost use Rattle.compare.specs.Compared.{Room};
 ghost use Rattle.decode.specs.declared.Answer.the-variants.{Refused as RefusedWith};
 ghost use Rattle.decode.specs.Answers.{Decodes, ByVerdict, ByAssignment, ByComparison, said, found, without};
-ghost use Rattle.clause_sizes.specs.Targets.{Dimensioned};
+ghost use Rattle.clause_sizes.specs.Targets.{Proper};
 ghost use Rattle.clause_sizes.specs.Measured.{Measured};
 ghost use Rattle.clause_sizes.specs.Sizes.{targetOf};
 ghost use Rattle.decode.specs.Ready.{Comparable, candidate};
@@ -71,7 +71,7 @@ fn by_verdict(
     cycle: &mut [u8],
 ) -> Decoded
     requires { ⌜ Room (now prefix) (now cycle) ⌝ }
-    ensures { λ r. ⌜ (Valid reference → Dimensioned target → ByVerdict (now (prefix .entry)) (now (prefix .exit)) (now (cycle .entry)) (now (cycle .exit)) r reference target held) ⌝ }
+    ensures { λ r. ⌜ (Valid reference → Proper target → ByVerdict (now (prefix .entry)) (now (prefix .exit)) (now (cycle .entry)) (now (cycle .exit)) r reference target held) ⌝ }
 {
     let scan = held.scan;
     let verdict = scan.verdict;
@@ -92,7 +92,7 @@ fn by_assignment(
     cycle: &mut [u8],
 ) -> Decoded
     requires { ⌜ Room (now prefix) (now cycle) ⌝ }
-    ensures { λ r. ⌜ (Valid reference → Dimensioned target → ByAssignment (now (prefix .entry)) (now (prefix .exit)) (now (cycle .entry)) (now (cycle .exit)) r reference target (said held)) ⌝ }
+    ensures { λ r. ⌜ (Valid reference → Proper target → ByAssignment (now (prefix .entry)) (now (prefix .exit)) (now (cycle .entry)) (now (cycle .exit)) r reference target (said held)) ⌝ }
 {
     let sized = measure(reference, target);
     match sized {
@@ -123,7 +123,7 @@ fn by_table(
     by_comparison(table, reference, prefix, cycle)
 }
 
-// A table with the propositions of the reference.
+// A table with the propositions of the reference and the named acceptance.
 fn table_of(
     reference: Automaton,
     z: Sizes,

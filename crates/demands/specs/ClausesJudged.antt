@@ -36,9 +36,10 @@ header-judged a τ answer h = go answer h
     turned : {f : Refusal} {said : Option Code} → Refuses a τ f said → Judged (to-count a τ) said (Unit {0})
     turned (sizes.outside v) = judged-refused (inl (v, refl)) refl tt
     turned (sizes.dimensions v d) = judged-refused (inr (v, inl (d, refl))) refl tt
+    turned (sizes.past-sets v d o) = judged-refused (inr (v, inr (d, inl (o, refl)))) refl tt
 
     go : (answer : Totals) → Headed a τ answer → Judged (to-count a τ) (header-said answer) (Unit {0})
-    go (header.Of last count) (v, d, t) = judged-accepted (v, (d, tt)) refl
+    go (header.Of last count) (v, d, t) = judged-accepted (v, (d .dimensioned, (d .own-sets, tt))) refl
     go (header.Refused f) t = turned t
 
 -- ---- clauses and lines
@@ -48,9 +49,10 @@ module _ (needed given : ℕ) (a : Automaton) (τ : Target) (x : ℕ) where
   turned (calls.short l) = judged-refused (inl (λ h. omega arith, refl)) refl
   turned (calls.outside r v) = judged-refused (inr (r, inl (v, refl))) refl
   turned (calls.dimensions r v p d) = judged-refused (inr (r, inr ((v, p), inl (d, refl)))) refl
+  turned (calls.past-sets r v p d o) = judged-refused (inr (r, inr ((v, p), inr (d, inl (o, refl))))) refl
 
   handed : calls.Accepted needed given a τ x → Accepted (to-hand-out needed given a τ x)
-  handed t = (t .room, ((t .valid, t .in-range), (t .dimensioned, tt)))
+  handed t = (t .room, ((t .valid, t .in-range), (t .proper .dimensioned, (t .proper .own-sets, tt))))
 
   -- what every answer P says of a call is enough
   answer-judged : (P : Answer → Type 0) {kept : Type 0} → ((k : ℕ) → P (Wrote k) → calls.Accepted needed given a τ x) → (P Ended → calls.Accepted needed given a τ x)

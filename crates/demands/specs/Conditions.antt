@@ -1,5 +1,5 @@
 -- DEFINITIONS: what each public function asks of a call, in document 01's "Order: 13 (prefix before loop), 4 for handed values, 8, then reading left to
--- right, then 11, 14, 12", and what its answers return: a refusal's number and two values, or none.
+-- right, then 11, 14, 12", with what document 02 puts "after 8", and what its answers return: a refusal's number and two values, or none.
 use mathlib.Core.Path.{_≡_}
 use mathlib.Core.Logic.{_≢_}
 use mathlib.Core.Bool.{false}
@@ -9,6 +9,7 @@ use Prim.Native.Nat.{ℕ, _≤_}
 use lib.ListN.{length, drop}
 use Rattle.meaning.specs.Agreement.{Agree}
 use Rattle.meaning.specs.FirstWord.{FirstWord}
+use Rattle.acceptance.specs.Masks.{OwnSets}
 use Rattle.automaton.specs.declared.Automaton.{Automaton}
 use Rattle.refusals.specs.declared.Code.{Code}
 use Rattle.refusals.specs.Refused.{row}
@@ -85,19 +86,23 @@ pub record JudgesComparison (a b : Automaton) (prefix prefix-after loop loop-aft
   pub shown : (c : Code) → comparison-said answer ≡ some c → c .number ≡ 12 → FirstWord (view a) (view b) x y
   pub same : answer ≡ comparison.Same → (prefix-after ≡ prefix) × (loop-after ≡ loop)
 
+-- ---- what is named for a file: "n outside 1 to 8 or m outside 0 to 4", then of the candidate's acceptance "a yes past m: 4, 0, 0, after 8"
+
+abbrev pub to-name : (τ : Target) → List Condition
+to-name τ = asks (Dimensioned τ) 8 (τ .states) (τ .sets) ∷ asks (OwnSets (τ .acceptance) (τ .sets)) 4 0 0 ∷ []
+
 -- ---- the header, the clause step, the clause line and the batch of lines
 
 abbrev pub to-count : (a : Automaton) (τ : Target) → List Condition
-to-count a τ = asks (Valid a) 4 0 0 ∷ asks (Dimensioned τ) 8 (τ .states) (τ .sets) ∷ []
+to-count a τ = asks (Valid a) 4 0 0 ∷ to-name τ
 
 abbrev pub to-hand-out : (needed given : ℕ) (a : Automaton) (τ : Target) (position : ℕ) → List Condition
-to-hand-out needed given a τ position =
-    asks (needed ≤ given) 13 needed given ∷ asks (Valid a × (position ≤ last-position)) 4 0 0 ∷ asks (Dimensioned τ) 8 (τ .states) (τ .sets) ∷ []
+to-hand-out needed given a τ position = asks (needed ≤ given) 13 needed given ∷ asks (Valid a × (position ≤ last-position)) 4 0 0 ∷ to-name τ
 
 -- ---- the reader of solver text: what it asks before it reads
 
 abbrev pub to-begin : (a : Automaton) (τ : Target) (r : Reader) → List Condition
-to-begin a τ r = asks (Valid a × InRange r) 4 0 0 ∷ asks (Dimensioned τ) 8 (τ .states) (τ .sets) ∷ []
+to-begin a τ r = asks (Valid a × InRange r) 4 0 0 ∷ to-name τ
 
 -- A call with the state r is judged before it reads, and then by 9 and 10, as reading gives them. 4 and 8 leave the state as it was; else it is what was read.
 pub record JudgesReading (a : Automaton) (τ : Target) (r : Reader) (read reply : Reply) : Type 0 where
@@ -150,7 +155,8 @@ pub record JudgesDecoding (a : Automaton) (τ : Target) (r : Reader) (prefix pre
   pub accepted : decoder-said (answer .answer) ≡ none
       → Answers (verdict-of a τ r) (decodedValue a τ (stated-by a τ r)) answer × (prefix-after ≡ prefix) × (loop-after ≡ loop)
 
--- ---- the search: "A finished search, after 13 and 4, says so", and asks nothing more of a table
+-- ---- the search: "A finished search, after 13 and 4, says so", and asks nothing more of a table; "a found table with another" acceptance than Inf of all "gets
+-- 3, 0, 0, after 8"
 
 abbrev pub to-start : (a : Automaton) → List Condition
 to-start a = asks (Valid a) 4 0 0 ∷ []
@@ -164,6 +170,7 @@ to-find s table prefix loop p l =
     ∷ asks (loopRoom ≤ loop) 13 loopRoom loop
     ∷ asks (state.InRange s × Valid table) 4 0 0
     ∷ asks (s .finished ≡ false → state.AskedFor s table) 8 (table .states) (table .sets)
+    ∷ asks (s .finished ≡ false → state.InfOfAll table) 3 0 0
     ∷ asks (s .finished ≡ false → table .propositions ≡ s .reference .propositions) 14 (table .propositions) (s .reference .propositions)
     ∷ asks (s .finished ≡ false → Agree (view table) (view (s .reference))) 12 p l
     ∷ []

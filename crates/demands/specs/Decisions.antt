@@ -5,8 +5,8 @@ use mathlib.Core.Logic.{_≢_, _⊎_, inl, inr, Dec·and, Dec·of-iff}
 use mathlib.Core.Bool.{Bool, true, false, false≢true}
 use mathlib.Core.List.{List, [], _∷_}
 use mathlib.Core.Option.{Option, none, some, Option·some-inj, Option·some-ne-none}
-use Prim.Native.Nat.{ℕ}
-use native.Mathlib.Decide.{ℕ-discrete, decLe}
+use Prim.Native.Nat.{ℕ, _^_}
+use native.Mathlib.Decide.{ℕ-discrete, decLe, decLt}
 use borrow.Author.Tests.{le-leb, leb-true}
 use lib.Dec.{leb}
 use lib.ListN.{length, getD}
@@ -14,6 +14,7 @@ use Rattle.meaning.specs.Agreement.{Agree}
 use Rattle.meaning.specs.Decision.{decide-agree}
 use Rattle.meaning.specs.Tests.{all}
 use Rattle.meaning.specs.TestLaws.{all-at, all-of}
+use Rattle.acceptance.specs.Masks.{OwnSets}
 use Rattle.automaton.specs.declared.Automaton.{Automaton}
 use Rattle.refusals.specs.declared.Code.{Code}
 use Rattle.automaton.specs.Tests.{fits}
@@ -113,6 +114,9 @@ pub dimensioned-decided : (τ : Target) → Dec (Dimensioned τ)
 dimensioned-decided τ =
     Dec·of-iff (λ ((s, l), k). record { n-some = s; n-le = l; m-le = k }, λ d. ((d .n-some, d .n-le), d .m-le))
     (Dec·and (Dec·and (decLe 1 (τ .states)) (decLe (τ .states) 8)) (decLe (τ .sets) 4))
+
+pub own-sets-decided : (τ : Target) → Dec (OwnSets (τ .acceptance) (τ .sets))
+own-sets-decided τ = decLt (τ .acceptance) (2 ^ (2 ^ τ .sets))
 
 pub in-range-decided : (r : Reader) → Dec (InRange r)
 in-range-decided r =

@@ -7,6 +7,7 @@ use Prim.Native.Nat.{ℕ, _≤_}
 use native.Mathlib.Decide.{decLe}
 use native.Mathlib.Omega.{arith}
 use lib.ListN.{length}
+use Rattle.acceptance.specs.Masks.{OwnSets}
 use Rattle.automaton.specs.declared.Automaton.{Automaton}
 use Rattle.refusals.specs.declared.Code.{Code}
 use Rattle.refusals.specs.declared.Refusal.{Refusal}
@@ -15,7 +16,7 @@ use Rattle.refusals.specs.Refused.{row, codeOf}
 use Rattle.automaton.specs.Value.{Valid}
 use Rattle.encoding.specs.Clauses.{Assignment}
 use Rattle.clause_sizes.specs.declared.Target.{Target}
-use Rattle.clause_sizes.specs.Targets.{Dimensioned, last, kept}
+use Rattle.clause_sizes.specs.Targets.{Dimensioned, Proper, last, kept}
 use Rattle.compare.specs.Compared.{prefixRoom, loopRoom}
 use Rattle.solver_text.specs.declared.Reader.{Reader}
 use Rattle.solver_text.specs.declared.Answer as solution
@@ -33,7 +34,7 @@ use Rattle.decode.specs.Missing.{all-or-lowest}
 use Rattle.demands.specs.Judgement.{TurnedDown, Accepted}
 use Rattle.demands.specs.Conditions.{fault-code, verdict-of, stated-by, to-decode, Answers, JudgesDecoding}
 use Rattle.demands.specs.SolverTextJudged.{fault-number}
-use Rattle.demands.specs.Decisions.{Decided, fault-decided, decision, some-none, other-number, judged-refused, judged-accepted, valid-decided, in-range-decided, dimensioned-decided, agree-decided}
+use Rattle.demands.specs.Decisions.{Decided, fault-decided, decision, some-none, other-number, judged-refused, judged-accepted, valid-decided, in-range-decided, dimensioned-decided, own-sets-decided, agree-decided}
 
 -- ---- verdicts
 
@@ -91,13 +92,16 @@ module _ {prefix prefix-after loop loop-after : List ℕ} {answer : Decoded} {a 
       go (yes v) = d .state h g (λ i. k (v, i))
       go (no v) = d .automaton h g v
 
-  module _ (h : prefixRoom ≤ length prefix) (g : loopRoom ≤ length loop) (v : Valid a × InRange r) (z : Dimensioned τ) where
+  module _ (h : prefixRoom ≤ length prefix) (g : loopRoom ≤ length loop) (v : Valid a × InRange r) (z : Proper τ) where
     admitted : Admitted prefix prefix-after loop loop-after answer a τ r
     admitted = record { prefix-room = h; loop-room = g; valid = v .0; in-range = v .1; sizes = z }
 
     -- what is answered to an accepted text, by its verdict
     accepting : solution-said (whole a τ r .answer) ≡ none → ByVerdict prefix prefix-after loop loop-after answer a τ (whole a τ r .reader)
     accepting e = d .accepted admitted (answer-accepted (whole a τ r .answer) e)
+
+  proper : Dimensioned τ → OwnSets (τ .acceptance) (τ .sets) → Proper τ
+  proper z o = record { dimensioned = z; own-sets = o }
 
   -- what a text is refused with is 9 or 10
   text-number : (f : Refusal) → whole a τ r .answer ≡ reading.Refused f → codeOf f .number ≢ 12
@@ -122,15 +126,18 @@ module _ {prefix prefix-after loop loop-after : List ℕ} {answer : Decoded} {a 
           λ v. (
             dimensioned-decided τ,
             λ z. (
-              fault-decided (solution-said (whole a τ r .answer)),
-              λ e. (
-                Dec·not (unstated-decided (verdict-of a τ r)),
-                λ k. (
-                  where-satisfiable (satisfiable-decided (verdict-of a τ r)) (λ s. all-step-decided),
-                  λ t. (
-                    where-satisfiable (satisfiable-decided (verdict-of a τ r)) (λ s.
-                        agree-decided (decodedValue a τ ν) a (decoded-valid (v .0) z ν (t s)) (v .0) refl),
-                    λ s. tt,
+              own-sets-decided τ,
+              λ o. (
+                fault-decided (solution-said (whole a τ r .answer)),
+                λ e. (
+                  Dec·not (unstated-decided (verdict-of a τ r)),
+                  λ k. (
+                    where-satisfiable (satisfiable-decided (verdict-of a τ r)) (λ s. all-step-decided),
+                    λ t. (
+                      where-satisfiable (satisfiable-decided (verdict-of a τ r)) (λ s.
+                          agree-decided (decodedValue a τ ν) a (decoded-valid (v .0) (proper z o) ν (t s)) (v .0) refl),
+                      λ s. tt,
+                    ),
                   ),
                 ),
               ),
@@ -182,45 +189,47 @@ module _ {prefix prefix-after loop loop-after : List ℕ} {answer : Decoded} {a 
     result (inl (k, inr (h, inr (g, inl (v, e))))) = refusal (inr (h, inr (g, inl (v, e)))) (outside h g v) e (λ is. omega arith)
     result (inl (k, inr (h, inr (g, inr (v, inl (z, e)))))) =
         refusal (inr (h, inr (g, inr (v, inl (z, e))))) (d .dimensions h g (v .0) (v .1) z) e (λ is. omega arith)
-    result (inl (k, inr (h, inr (g, inr (v, inr (z, inl (f, e))))))) =
+    result (inl (k, inr (h, inr (g, inr (v, inr (z, inl (o, e))))))) =
+        refusal (inr (h, inr (g, inr (v, inr (z, inl (o, e)))))) (d .acceptance h g (v .0) (v .1) z o) e (λ is. omega arith)
+    result (inl (k, inr (h, inr (g, inr (v, inr (z, inr (o, inl (f, e)))))))) =
         let (b, w) = answer-refused (whole a τ r .answer) f in
-        refusal (inr (h, inr (g, inr (v, inr (z, inl (f, e)))))) (d .text (admitted h g v z) b w)
+        refusal (inr (h, inr (g, inr (v, inr (z, inr (o, inl (f, e))))))) (d .text (admitted h g v (proper z o)) b w)
         (e ∙ ap (λ w. fault-code (solution-said w)) w) (text-number b w)
-    result (inl (k, inr (h, inr (g, inr (v, inr (z, inr (f, inl (u, e)))))))) =
-        refusal (inr (h, inr (g, inr (v, inr (z, inr (f, inl (u, e))))))) (accepting h g v z f .unstated (Dec·not-not (unstated-decided (verdict-of a τ r)) .0 u)) e (λ is. omega arith)
-    result (inl (k, inr (h, inr (g, inr (v, inr (z, inr (f, inr (u, inl (t, e))))))))) = stuck (satisfiable-decided (verdict-of a τ r))
+    result (inl (k, inr (h, inr (g, inr (v, inr (z, inr (o, inr (f, inl (u, e))))))))) =
+        refusal (inr (h, inr (g, inr (v, inr (z, inr (o, inr (f, inl (u, e)))))))) (accepting h g v (proper z o) f .unstated (Dec·not-not (unstated-decided (verdict-of a τ r)) .0 u)) e (λ is. omega arith)
+    result (inl (k, inr (h, inr (g, inr (v, inr (z, inr (o, inr (f, inr (u, inl (t, e)))))))))) = stuck (satisfiable-decided (verdict-of a τ r))
       where
         stuck : Dec (verdict-of a τ r ≡ Satisfiable) → Result
         stuck (no j) = absurd (t (λ s. absurd (j s)))
         stuck (yes s) =
-            refusal (inr (h, inr (g, inr (v, inr (z, inr (f, inr (u, inl (t, e))))))))
-            (accepting h g v z f .satisfiable s .no-step state letter (low (λ all. t (λ s. all)))) e (λ is. omega arith)
-    result (inl (k, inr (h, inr (g, inr (v, inr (z, inr (f, inr (u, inr (t, inl (j, e)))))))))) = differing (satisfiable-decided (verdict-of a τ r))
+            refusal (inr (h, inr (g, inr (v, inr (z, inr (o, inr (f, inr (u, inl (t, e)))))))))
+            (accepting h g v (proper z o) f .satisfiable s .no-step state letter (low (λ all. t (λ s. all)))) e (λ is. omega arith)
+    result (inl (k, inr (h, inr (g, inr (v, inr (z, inr (o, inr (f, inr (u, inr (t, inl (j, e))))))))))) = differing (satisfiable-decided (verdict-of a τ r))
       where
         differing : Dec (verdict-of a τ r ≡ Satisfiable) → Result
         differing (no i) = absurd (j (λ s. absurd (i s)))
         differing (yes s) =
-            let w = accepting h g v z f .satisfiable s .table (t s) .differ (λ agree. j (λ s. agree)) in
+            let w = accepting h g v (proper z o) f .satisfiable s .table (t s) .differ (λ agree. j (λ s. agree)) in
             let said = w .number in
             record {
               state = state;
               letter = letter;
               x = w .shown .x;
               y = w .shown .y;
-              judged = judged-refused (inr (h, inr (g, inr (v, inr (z, inr (f, inr (u, inr (t, inl (j, refl))))))))) said (w .shown .prefix-is, w .shown .loop-is);
+              judged = judged-refused (inr (h, inr (g, inr (v, inr (z, inr (o, inr (f, inr (u, inr (t, inl (j, refl)))))))))) said (w .shown .prefix-is, w .shown .loop-is);
               lowest = low;
               empty = λ k e other. absurd (other (ap (λ (k : Code). k .number) (Option·some-inj .0 (sym e ∙ said))));
               shown = λ k e is. w .shown .word;
               accepted = λ e. some-none (sym said ∙ e);
             }
-    result (inl (k, inr (h, inr (g, inr (v, inr (z, inr (f, inr (u, inr (t, inr (j, e)))))))))) = absurd e
-    result (inr (h, (g, (v, (z, (f, (u, (t, (j, e))))))))) = go (verdict-of a τ r) refl
+    result (inl (k, inr (h, inr (g, inr (v, inr (z, inr (o, inr (f, inr (u, inr (t, inr (j, e))))))))))) = absurd e
+    result (inr (h, (g, (v, (z, (o, (f, (u, (t, (j, e)))))))))) = go (verdict-of a τ r) refl
       where
         go : (w : Verdict) → verdict-of a τ r ≡ w → Result
         go Unstated q = absurd (u q)
-        go Satisfiable q = acceptance (h, (g, (v, (z, (f, (u, (t, (j, e)))))))) q (λ e. e) (accepting h g v z f .satisfiable q .table (t q) .same (j q))
-        go Unsatisfiable q = acceptance (h, (g, (v, (z, (f, (u, (t, (j, e)))))))) q (λ e. e) (accepting h g v z f .none q)
-        go Unknown q = acceptance (h, (g, (v, (z, (f, (u, (t, (j, e)))))))) q (λ e. e) (accepting h g v z f .unknown q)
+        go Satisfiable q = acceptance (h, (g, (v, (z, (o, (f, (u, (t, (j, e))))))))) q (λ e. e) (accepting h g v (proper z o) f .satisfiable q .table (t q) .same (j q))
+        go Unsatisfiable q = acceptance (h, (g, (v, (z, (o, (f, (u, (t, (j, e))))))))) q (λ e. e) (accepting h g v (proper z o) f .none q)
+        go Unknown q = acceptance (h, (g, (v, (z, (o, (f, (u, (t, (j, e))))))))) q (λ e. e) (accepting h g v (proper z o) f .unknown q)
 
   pub decoder-judged : JudgesDecoding a τ r prefix prefix-after loop loop-after answer
   decoder-judged = go (all-or-lowest a τ (stated-by a τ r))

@@ -7,13 +7,14 @@ use native.Mathlib.Decide.{decLe}
 use native.Mathlib.Omega.{arith}
 use lib.ListN.{length}
 use Rattle.meaning.specs.Agreement.{Agree}
+use Rattle.acceptance.specs.Masks.{OwnSets}
 use Rattle.automaton.specs.declared.Automaton.{Automaton}
 use Rattle.refusals.specs.declared.Refusal.the-variants.{Differ}
 use Rattle.automaton.specs.Value.{Valid}
 use Rattle.automaton.specs.View.{view}
 use Rattle.encoding.specs.Clauses.{Assignment}
 use Rattle.clause_sizes.specs.declared.Target.{Target}
-use Rattle.clause_sizes.specs.Targets.{Dimensioned}
+use Rattle.clause_sizes.specs.Targets.{Dimensioned, Proper}
 use Rattle.compare.specs.Compared.{prefixRoom, loopRoom}
 use Rattle.solver_text.specs.declared.Reader.{Reader}
 use Rattle.solver_text.specs.declared.Answer as solution
@@ -27,7 +28,7 @@ use Rattle.decode.specs.Answers.{whole, said, without, Differs, ByComparison, B
 use Rattle.decode.specs.Table.{decodedValue, AllStep, LowestWithout}
 use Rattle.decode.specs.Value.{decoded-valid}
 use Rattle.decode.specs.Missing.{all-or-lowest}
-use Rattle.demands.specs.Decisions.{valid-decided, in-range-decided, dimensioned-decided, agree-decided}
+use Rattle.demands.specs.Decisions.{valid-decided, in-range-decided, dimensioned-decided, own-sets-decided, agree-decided}
 use Rattle.demands.specs.ComparisonOnce.{Alike, alike, alike-word}
 
 module _ {prefix p q loop l m : List ℕ} {x y : Decoded} {a : Automaton} where
@@ -38,7 +39,7 @@ module _ {prefix p q loop l m : List ℕ} {x y : Decoded} {a : Automaton} where
   by-agreement D E (yes s) = alike (D .same s) (E .same s)
   by-agreement D E (no s) = differs (D .differ s) (E .differ s)
 
-  module _ {τ : Target} (v : Valid a) (z : Dimensioned τ) where
+  module _ {τ : Target} (v : Valid a) (z : Proper τ) where
     by-steps : {ν : Assignment} → ByAssignment prefix p loop l x a τ ν → ByAssignment prefix q loop m y a τ ν
         → AllStep a τ ν ⊎ ((s j : ℕ) × LowestWithout a τ ν s j) → Alike x y p q l m
     by-steps {ν} D E (inl t) = by-agreement (D .table t) (E .table t) (agree-decided (decodedValue a τ ν) a (decoded-valid v z ν t) v refl)
@@ -51,24 +52,26 @@ module _ {prefix p q loop l m : List ℕ} {x y : Decoded} {a : Automaton} where
     by-verdict D E Unknown e = alike (D .unknown e) (E .unknown e)
 
 module _ {prefix p q loop l m : List ℕ} {x y : Decoded} {a : Automaton} {τ : Target} {r : Reader} (D : Decodes prefix p loop l x a τ r) (E : Decodes prefix q loop m y a τ r) where
-  by-text : Valid a → Dimensioned τ → Admitted prefix p loop l x a τ r → Admitted prefix q loop m y a τ r
+  by-text : Valid a → Proper τ → Admitted prefix p loop l x a τ r → Admitted prefix q loop m y a τ r
       → (w : solution.Answer) → whole a τ r .answer ≡ w → Alike x y p q l m
   by-text v z A B (reading.Refused f) e = alike (D .text A f e) (E .text B f e)
   by-text v z A B reading.Accepted e = by-verdict v z (D .accepted A e) (E .accepted B e) (whole a τ r .reader .scan .verdict) refl
 
   module _ (h : prefixRoom ≤ length prefix) (g : loopRoom ≤ length loop) where
-    by-values : Dec (Valid a) → Dec (InRange r) → Dec (Dimensioned τ) → Alike x y p q l m
-    by-values (no v) i z = alike (D .automaton h g v) (E .automaton h g v)
-    by-values (yes v) (no i) z = alike (D .state h g i) (E .state h g i)
-    by-values (yes v) (yes i) (no z) = alike (D .dimensions h g v i z) (E .dimensions h g v i z)
-    by-values (yes v) (yes i) (yes z) =
+    by-values : Dec (Valid a) → Dec (InRange r) → Dec (Dimensioned τ) → Dec (OwnSets (τ .acceptance) (τ .sets)) → Alike x y p q l m
+    by-values (no v) i d o = alike (D .automaton h g v) (E .automaton h g v)
+    by-values (yes v) (no i) d o = alike (D .state h g i) (E .state h g i)
+    by-values (yes v) (yes i) (no d) o = alike (D .dimensions h g v i d) (E .dimensions h g v i d)
+    by-values (yes v) (yes i) (yes d) (no o) = alike (D .acceptance h g v i d o) (E .acceptance h g v i d o)
+    by-values (yes v) (yes i) (yes d) (yes o) =
+        let z : Proper τ = record { dimensioned = d; own-sets = o } in
         by-text v z (record { prefix-room = h; loop-room = g; valid = v; in-range = i; sizes = z }) (record { prefix-room = h; loop-room = g; valid = v; in-range = i; sizes = z })
         (whole a τ r .answer) refl
 
   by-room : Dec (prefixRoom ≤ length prefix) → Dec (loopRoom ≤ length loop) → Alike x y p q l m
   by-room (no h) g = alike (D .short-prefix (omega arith)) (E .short-prefix (omega arith))
   by-room (yes h) (no g) = alike (D .short-loop h (omega arith)) (E .short-loop h (omega arith))
-  by-room (yes h) (yes g) = by-values h g (valid-decided a) (in-range-decided r) (dimensioned-decided τ)
+  by-room (yes h) (yes g) = by-values h g (valid-decided a) (in-range-decided r) (dimensioned-decided τ) (own-sets-decided τ)
 
   pub decoding-once : Alike x y p q l m
   decoding-once = by-room (decLe prefixRoom (length prefix)) (decLe loopRoom (length loop))

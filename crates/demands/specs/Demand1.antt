@@ -14,7 +14,7 @@ use Rattle.automaton.specs.declared.Automaton.{Automaton}
 use Rattle.refusals.specs.declared.Code.{Code}
 use Rattle.automaton.specs.Value.{Valid}
 use Rattle.clause_sizes.specs.declared.Target.{Target}
-use Rattle.clause_sizes.specs.Targets.{Dimensioned, last, kept}
+use Rattle.clause_sizes.specs.Targets.{Proper, last, kept}
 use Rattle.compare.specs.declared.Comparison.{Comparison}
 use Rattle.compare.specs.Compared.{Compared, prefixRoom, loopRoom}
 use Rattle.hoa_text.specs.ReadBack.{read-back}
@@ -71,13 +71,13 @@ pub record ReadsSolverText : Type 0 where
       → JudgesReading a τ r (told (run (last a τ) (kept a τ) r u)) e
   pub finish : (a : Automaton) (τ : Target) (r : Reader) (e : Reply) → Ends a τ r e → JudgesReading a τ r (told (end (last a τ) (kept a τ) r)) e
   -- "Text may arrive cut anywhere; the answer is that of the whole text": 9 and 10 are returned where the definition of solver text gives them
-  pub whole : (a : Automaton) (τ : Target) → Valid a → Dimensioned τ → (us : List (List ℕ)) (q : Reader) (e : Reply) → Reads a τ fresh us q → Ends a τ q e
+  pub whole : (a : Automaton) (τ : Target) → Valid a → Proper τ → (us : List (List ℕ)) (q : Reader) (e : Reply) → Reads a τ fresh us q → Ends a τ q e
       → solution-said (e .answer) ≡ fault (outcome (last a τ) (kept a τ) (joined us))
   -- and in mid-text: a piece is refused exactly where every text that begins so is
-  pub mid-text : (a : Automaton) (τ : Target) → Valid a → Dimensioned τ → (us : List (List ℕ)) (q : Reader) (u : List ℕ) (e : Reply) → Reads a τ fresh us q
+  pub mid-text : (a : Automaton) (τ : Target) → Valid a → Proper τ → (us : List (List ℕ)) (q : Reader) (u : List ℕ) (e : Reply) → Reads a τ fresh us q
       → Called a τ q (told (run (last a τ) (kept a τ) q u)) e → RefusedExactly (last a τ) (kept a τ) (joined us ++ u) (e .answer)
   -- "refused solver text stays refused", whatever comes next
-  pub stays : (a : Automaton) (τ : Target) (r : Reader) (c : Code) → Valid a → InRange r → Dimensioned τ → solution-said (told r .answer) ≡ some c
+  pub stays : (a : Automaton) (τ : Target) (r : Reader) (c : Code) → Valid a → InRange r → Proper τ → solution-said (told r .answer) ≡ some c
       → ((u : List ℕ) (e : Reply) → Called a τ r (told (run (last a τ) (kept a τ) r u)) e → e ≡ told r) × ((e : Reply) → Ends a τ r e → e ≡ told r)
   -- what a text is refused with is 9 or 10
   pub number : (r : Reader) (c : Code) → solution-said (told r .answer) ≡ some c → (c .number ≡ 9) ⊎ (c .number ≡ 10)
@@ -108,7 +108,7 @@ pub record Demand1 : Type 0 where
       → Decodes prefix prefix-after loop loop-after answer a τ r → JudgesDecoding a τ r prefix prefix-after loop loop-after answer
   -- the decoder takes what a fresh reader holds of a text: 9 and 10 where the definition of solver text gives them, and else by what the text says
   pub decode-text : (prefix prefix-after loop loop-after : List ℕ) (answer : Decoded) (a : Automaton) (τ : Target) → prefixRoom ≤ length prefix → loopRoom ≤ length loop → Valid a
-      → Dimensioned τ → (us : List (List ℕ)) (r : Reader) → Reads a τ fresh us r → Decodes prefix prefix-after loop loop-after answer a τ r
+      → Proper τ → (us : List (List ℕ)) (r : Reader) → Reads a τ fresh us r → Decodes prefix prefix-after loop loop-after answer a τ r
       → OfText prefix prefix-after loop loop-after answer a τ (outcome (last a τ) (kept a τ) (joined us))
   -- search::start, search::none and search::unknown, search::found
   pub start : (a : Automaton) (r : search.Reply) → Started a r → Judged (to-start a) (search-said (r .answer)) (Unit {0})

@@ -3,7 +3,7 @@
 use mathlib.Core.Path.{_≡_, refl, ap, _∙_}
 use mathlib.Core.Logic.{_≢_, _⊎_, inl, inr, _↔_}
 use mathlib.Core.List.{List}
-use Prim.Native.Nat.{ℕ, suc, _*_, _≤_, _<_, max}
+use Prim.Native.Nat.{ℕ, suc, _+_, _*_, _≤_, _<_}
 use lib.ListN.{length, take, drop}
 use lib.Seq.{take-at}
 use Rattle.meaning.specs.Agreement.{Agree, AgreeEverywhere, Comparable}
@@ -59,8 +59,8 @@ pub record Compares (a b : Automaton) (prefix prefix-after loop loop-after : Lis
   -- and otherwise 12: the buffers begin with the first lasso word that one accepts and the other rejects, and are else as they were
   pub differ : Admitted a b prefix loop → answer ≢ Same → Shown a b prefix prefix-after loop loop-after answer
 
--- The word of document 02's request E5, for two automata that differ: there is one, and no other, in whichever order the two are named; and it keeps document
--- 01's bounds: "With N the product of the two state counts, prefix ≤ N - 1 and loop ≤ (larger set count + 1)N."
+-- The word of document 02's request E5, for two automata that differ: there is one, and no other, in whichever order the two are named; and it keeps the
+-- documents' bounds: "With N the product of the two state counts, prefix ≤ N - 1", and "The loop bound becomes (the sum of both set counts + 1)N".
 pub record TheWord (a b : Automaton) : Type 0 where
   pub x : List ℕ
   pub y : List ℕ
@@ -68,7 +68,7 @@ pub record TheWord (a b : Automaton) : Type 0 where
   pub only : (u v : List ℕ) → FirstWord (view a) (view b) u v → (u ≡ x) × (v ≡ y)
   pub either-order : FirstWord (view b) (view a) x y
   pub prefix-lt : length x < a .states * b .states
-  pub loop-le : length y ≤ suc (max (a .sets) (b .sets)) * (a .states * b .states)
+  pub loop-le : length y ≤ suc (a .sets + b .sets) * (a .states * b .states)
 
 pub record Demand2 : Type 0 where
   pub compares : (a b : Automaton) (prefix prefix-after loop loop-after : List ℕ) (answer : Comparison) → Compared a b prefix prefix-after loop loop-after answer

@@ -20,7 +20,7 @@ use Rattle.encoding.specs.Clauses.{Assignment, Satisfies, group₄}
 use Rattle.encoding.specs.NamedFile.{named-length, named-encodes}
 use Rattle.compare.specs.Compared.{prefixRoom, loopRoom}
 use Rattle.clause_sizes.specs.declared.Target.{Target}
-use Rattle.clause_sizes.specs.Targets.{Dimensioned, task, numbers, last, kept, file, named}
+use Rattle.clause_sizes.specs.Targets.{Proper, task, numbers, last, kept, file, named}
 use Rattle.clause_sizes.specs.Sizes as sizes
 use Rattle.clause_header.specs.declared.Totals.{Totals}
 use Rattle.clause_header.specs.declared.Totals.the-variants.{Of, Refused as NoTotals}
@@ -76,8 +76,8 @@ pub record Demand3 (reference : Automaton) (τ : Target) : Type 0 where
       ≡ n * letters reference + (1 + n * n * reference .states * letters reference)
       + n * n * n * reference .states * reference .states * letters reference * 2 ^ m * 2 ^ reference .sets * 2 ^ m
       + length (group₄ (task reference τ) (numbers reference τ))
-  -- 3. The file can be satisfied exactly if some automaton C is found: with n states, m sets, "start 0" and the reference's propositions and names, and in
-  -- agreement with the reference on every lasso word.
+  -- 3. The file can be satisfied exactly if some automaton C is found: with n states, m sets, the named acceptance ("demand 3 speaks of the automata that
+  -- carry it"), "start 0" and the reference's propositions and names, and in agreement with the reference on every lasso word.
   pub satisfiable : ((ν : Assignment) × Satisfies ν (file reference τ)) ↔ ((C : Automaton) × Found reference τ C)
   -- "An assignment says yes or no to each variable from 1 to V": what it says of other numbers does not count.
   pub within : (ν ξ : Assignment) → ((k : ℕ) → 0 < k → k ≤ last reference τ → ν k ≡ ξ k) → Satisfies ν (file reference τ)
@@ -94,11 +94,12 @@ pub record Demand3 (reference : Automaton) (τ : Target) : Type 0 where
 
 -- ---- the proof
 
-module _ {reference : Automaton} {τ : Target} (v : Valid reference) (d : Dimensioned τ) where
+module _ {reference : Automaton} {τ : Target} (v : Valid reference) (d : Proper τ) where
   header-is : (r : Totals) → Headed reference τ r → r ≡ Of (last reference τ) (length (file reference τ))
   header-is (Of variables clauses) (w, i, (e, f)) = ap₂ Of e f
   header-is (NoTotals f) (sizes.outside w) = absurd (w v)
-  header-is (NoTotals f) (sizes.dimensions w i) = absurd (i d)
+  header-is (NoTotals f) (sizes.dimensions w i) = absurd (i (d .dimensioned))
+  header-is (NoTotals f) (sizes.past-sets w i o) = absurd (o (d .own-sets))
 
   delivered : (ν : Assignment) → Satisfies ν (file reference τ) → (pieces : List (List ℕ)) → States (last reference τ) (kept reference τ) (joined pieces) ν
       → (r : Reader) → Held reference τ pieces r → (prefix prefix-after loop loop-after : List ℕ) (answer : Decoded)
@@ -122,7 +123,7 @@ module _ {reference : Automaton} {τ : Target} (v : Valid reference) (d : Dimens
     count = named-length (view reference) (named τ);
     satisfiable = can-be-satisfied v d;
     within = λ ν ξ same s. (
-      named-encodes (view reference) (named τ) (view-formed v) (d .n-some) .within ν ξ same s,
+      named-encodes (view reference) (named τ) (view-formed v) (d .dimensioned .n-some) .within ν ξ same s,
       decoded-same-value reference τ ν ξ (λ k i j. same k i (omega arith)) (satisfying-steps v d ν s),
     );
     decodes = satisfying-found v d;
@@ -130,6 +131,6 @@ module _ {reference : Automaton} {τ : Target} (v : Valid reference) (d : Dimens
     complete = found-decoded v d;
   }
 
--- for every reference in "The automaton", "n states (1 to 8), m sets (0 to 4)"
-pub demand-3 : {reference : Automaton} {τ : Target} → Valid reference → Dimensioned τ → Demand3 reference τ
+-- for every reference in "The automaton", "n states (1 to 8), m sets (0 to 4)", and every acceptance of the candidate without "a yes past m"
+pub demand-3 : {reference : Automaton} {τ : Target} → Valid reference → Proper τ → Demand3 reference τ
 demand-3 v d = every-field v d

@@ -58,24 +58,26 @@ module _ {s : Search} {table : Automaton} {prefix prefix-after loop loop-after :
   found-judged (state.short-loop h g u) = refusal (inr (h, inl (λ k. absurd (omega arith), refl))) u (λ is. omega arith)
   found-judged (state.outside m n u) = refusal (inr (m .prefix-room, inr (m .loop-room, inl (n, refl)))) u (λ is. omega arith)
   found-judged (state.finished m i v t (e, p, l, c)) =
-      reply (m .prefix-room, (m .loop-room, ((i, v), ((λ f. ended (s .finished) t f), ((λ f. ended (s .finished) t f), ((λ f. ended (s .finished) t f), tt)))))) c (p, l)
+      reply (m .prefix-room, (m .loop-room, ((i, v), ((λ f. ended (s .finished) t f), ((λ f. ended (s .finished) t f), ((λ f. ended (s .finished) t f), ((λ f. ended (s .finished) t f), tt))))))) c (p, l)
   found-judged (state.dimensions m d n u) =
       refusal (inr (m .prefix-room, inr (m .loop-room, inr ((d .in-range, d .valid), inl (λ k. n (k (d .unfinished)), refl))))) u (λ is. omega arith)
-  found-judged (state.letters m d a n u) =
+  found-judged (state.acceptance m d a n u) =
       refusal (inr (m .prefix-room, inr (m .loop-room, inr ((d .in-range, d .valid), inr (λ f. a, inl (λ k. n (k (d .unfinished)), refl)))))) u (λ is. omega arith)
-  found-judged (state.differ m d a k n w) =
+  found-judged (state.letters m d a i n u) =
+      refusal (inr (m .prefix-room, inr (m .loop-room, inr ((d .in-range, d .valid), inr (λ f. a, inr (λ f. i, inl (λ k. n (k (d .unfinished)), refl))))))) u (λ is. omega arith)
+  found-judged (state.differ m d a i k n w) =
       let said = w .number in
       record {
         x = w .shown .x;
         y = w .shown .y;
         judged =
             judged-refused
-            (inr (m .prefix-room, inr (m .loop-room, inr ((d .in-range, d .valid), inr (λ f. a, inr (λ f. k, inl (λ g. n (g (d .unfinished)), refl)))))))
+            (inr (m .prefix-room, inr (m .loop-room, inr ((d .in-range, d .valid), inr (λ f. a, inr (λ f. i, inr (λ f. k, inl (λ g. n (g (d .unfinished)), refl))))))))
             said
             (holds (w .says), w .shown .prefix-is, w .shown .loop-is);
         empty = λ c e other. absurd (other (ap (λ (k : Code). k .number) (Option·some-inj .0 (sym e ∙ said))));
         shown = λ c e is. w .shown .word;
         accepted = λ e. some-none (sym said ∙ e);
       }
-  found-judged (state.taken m d a k g (e, p, l, c)) =
-      reply (m .prefix-room, (m .loop-room, ((d .in-range, d .valid), ((λ f. a), ((λ f. k), ((λ f. g), tt)))))) c (p, l)
+  found-judged (state.taken m d a i k g (e, p, l, c)) =
+      reply (m .prefix-room, (m .loop-room, ((d .in-range, d .valid), ((λ f. a), ((λ f. i), ((λ f. k), ((λ f. g), tt))))))) c (p, l)

@@ -11,7 +11,7 @@ use Rattle.meaning.specs.Agreement.{Agree}
 use Rattle.automaton.specs.declared.Automaton.{Automaton}
 use Rattle.refusals.specs.declared.Code.{Code}
 use Rattle.refusals.specs.declared.Refusal.{Refusal}
-use Rattle.refusals.specs.declared.Refusal.the-variants.{Outside, Dimensions, Differ, Short, Propositions}
+use Rattle.refusals.specs.declared.Refusal.the-variants.{OtherAcceptance, Outside, Dimensions, Differ, Short, Propositions}
 use Rattle.refusals.specs.Refused.{codeOf}
 use Rattle.automaton.specs.Value.{Valid}
 use Rattle.automaton.specs.View.{view}
@@ -20,7 +20,7 @@ use Rattle.search_rule.specs.declared.Search.{Search}
 use Rattle.search_rule.specs.Rule as rule
 use Rattle.search.specs.declared.Answer.the-variants.{Taken, Finished}
 use Rattle.search.specs.declared.Reply.{Reply}
-use Rattle.search.specs.Replies.{Found, Untouched, Differs, InRange, AskedFor, refused, replied}
+use Rattle.search.specs.Replies.{Found, Untouched, Differs, InRange, AskedFor, InfOfAll, refused, replied}
 use Rattle.search.specs.Replies as state
 use Rattle.demands.specs.ComparisonOnce.{Alike, alike, alike-word}
 
@@ -51,8 +51,9 @@ module _ (s : Search) (table : Automaton) (prefix p loop l : List ℕ) (r : Repl
       (Row (InRange s × Valid table) (Refuses Outside)
       (Row (s .finished ≡ false) (Kept (replied Finished s) none)
       (Row (AskedFor s table) (Refuses (Dimensions (table .states) (table .sets)))
+      (Row (InfOfAll table) (Refuses OtherAcceptance)
       (Row (table .propositions ≡ s .reference .propositions) (Refuses (Propositions (table .propositions) (s .reference .propositions)))
-      (Row (Agree (view table) (view (s .reference))) (Differs s table prefix p loop l r) (Kept (replied Taken (rule.found table s)) none)))))))
+      (Row (Agree (view table) (view (s .reference))) (Differs s table prefix p loop l r) (Kept (replied Taken (rule.found table s)) none))))))))
 
   rows : Found s table prefix p loop l r → Rows
   rows (state.short-prefix h u) = inl (λ g. absurd (omega arith), u)
@@ -60,9 +61,10 @@ module _ (s : Search) (table : Automaton) (prefix p loop l : List ℕ) (r : Repl
   rows (state.outside m n u) = inr (m .prefix-room, inr (m .loop-room, inl (n, u)))
   rows (state.finished m i v t u) = inr (m .prefix-room, inr (m .loop-room, inr ((i, v), inl (λ f. true≢false (sym t ∙ f), u))))
   rows (state.dimensions m d n u) = inr (m .prefix-room, inr (m .loop-room, inr ((d .in-range, d .valid), inr (d .unfinished, inl (n, u)))))
-  rows (state.letters m d a n u) = inr (m .prefix-room, inr (m .loop-room, inr ((d .in-range, d .valid), inr (d .unfinished, inr (a, inl (n, u))))))
-  rows (state.differ m d a k n w) = inr (m .prefix-room, inr (m .loop-room, inr ((d .in-range, d .valid), inr (d .unfinished, inr (a, inr (k, inl (n, w)))))))
-  rows (state.taken m d a k g u) = inr (m .prefix-room, inr (m .loop-room, inr ((d .in-range, d .valid), inr (d .unfinished, inr (a, inr (k, inr (g, u)))))))
+  rows (state.acceptance m d a n u) = inr (m .prefix-room, inr (m .loop-room, inr ((d .in-range, d .valid), inr (d .unfinished, inr (a, inl (n, u))))))
+  rows (state.letters m d a i n u) = inr (m .prefix-room, inr (m .loop-room, inr ((d .in-range, d .valid), inr (d .unfinished, inr (a, inr (i, inl (n, u)))))))
+  rows (state.differ m d a i k n w) = inr (m .prefix-room, inr (m .loop-room, inr ((d .in-range, d .valid), inr (d .unfinished, inr (a, inr (i, inr (k, inl (n, w))))))))
+  rows (state.taken m d a i k g u) = inr (m .prefix-room, inr (m .loop-room, inr ((d .in-range, d .valid), inr (d .unfinished, inr (a, inr (i, inr (k, inr (g, u))))))))
 
 module _ {s : Search} {table : Automaton} {prefix p q loop l m : List ℕ} {x y : Reply} where
   differs : Differs s table prefix p loop l x → Differs s table prefix q loop m y → Alike x y p q l m
@@ -70,5 +72,5 @@ module _ {s : Search} {table : Automaton} {prefix p q loop l m : List ℕ} {x y 
 
   pub finding-once : Found s table prefix p loop l x → Found s table prefix q loop m y → Alike x y p q l m
   finding-once F G =
-      row-once alike (row-once alike (row-once alike (row-once alike (row-once alike (row-once alike (row-once differs alike))))))
+      row-once alike (row-once alike (row-once alike (row-once alike (row-once alike (row-once alike (row-once alike (row-once differs alike)))))))
       (rows s table prefix p loop l x F) (rows s table prefix q loop m y G)

@@ -5,12 +5,13 @@ use mathlib.Core.Bool.{true}
 use mathlib.Core.List.{List, [], _∷_, _++_}
 use mathlib.Core.Option.{none, some, Option·some-inj}
 use Prim.Native.Nat.{ℕ}
+use Rattle.acceptance.specs.Masks.{OwnSets}
 use Rattle.automaton.specs.declared.Automaton.{Automaton}
 use Rattle.refusals.specs.declared.Code.{Code}
 use Rattle.refusals.specs.declared.Refusal.the-variants.{Outside, Dimensions}
 use Rattle.automaton.specs.Value.{Valid}
 use Rattle.clause_sizes.specs.declared.Target.{Target}
-use Rattle.clause_sizes.specs.Targets.{Dimensioned, last, kept}
+use Rattle.clause_sizes.specs.Targets.{Dimensioned, Proper, last, kept}
 use Rattle.solver_text.specs.declared.Reader.{Reader}
 use Rattle.solver_text.specs.declared.Reply.{Reply}
 use Rattle.solver_scan.specs.declared.Place.{Place}
@@ -23,13 +24,13 @@ use Rattle.solver_agreement.specs.Staying.{accepted-place, at-both}
 use Rattle.solver_agreement.specs.Pieces.{whole-text, Tells}
 use Rattle.demands.specs.Judgement.{TurnedDown, Accepted}
 use Rattle.demands.specs.Conditions.{to-begin, no-fault, JudgesReading}
-use Rattle.demands.specs.Decisions.{Decided, fault-decided, fault-is, some-none, judged, valid-decided, dimensioned-decided, in-range-decided}
+use Rattle.demands.specs.Decisions.{Decided, fault-decided, fault-is, some-none, judged, valid-decided, dimensioned-decided, own-sets-decided, in-range-decided}
 
 -- ---- one call
 
 module _ (a : Automaton) (τ : Target) (r : Reader) (read reply : Reply) (c : Called a τ r read reply) where
   decided : Decided (to-begin a τ r ++ (no-fault (solution-said (read .answer)) ∷ []))
-  decided = (Dec·and (valid-decided a) (in-range-decided r), λ v. (dimensioned-decided τ, λ d. (fault-decided (solution-said (read .answer)), λ e. tt)))
+  decided = (Dec·and (valid-decided a) (in-range-decided r), λ v. (dimensioned-decided τ, λ d. (own-sets-decided τ, λ o. (fault-decided (solution-said (read .answer)), λ e. tt))))
 
   outside : ¬ (Valid a × InRange r) → reply ≡ refusal Outside r
   outside k = go (valid-decided a)
@@ -41,25 +42,30 @@ module _ (a : Automaton) (τ : Target) (r : Reader) (read reply : Reply) (c : Ca
   sizes : Valid a → InRange r → ¬ Dimensioned τ → reply ≡ refusal (Dimensions (τ .states) (τ .sets)) r
   sizes v i k = c .sizes v i k
 
-  text : Valid a → InRange r → Dimensioned τ → reply ≡ read
-  text v i d = c .text v i d
+  past-sets : Valid a → InRange r → Dimensioned τ → ¬ OwnSets (τ .acceptance) (τ .sets) → reply ≡ refusal Outside r
+  past-sets v i d k = c .acceptance v i d k
+
+  text : Valid a → InRange r → Dimensioned τ → OwnSets (τ .acceptance) (τ .sets) → reply ≡ read
+  text v i d o = c .text v i (record { dimensioned = d; own-sets = o })
 
   refuses : (k : Code) → TurnedDown (to-begin a τ r ++ (no-fault (solution-said (read .answer)) ∷ [])) k → (solution-said (reply .answer) ≡ some k) × Unit {0}
   refuses k (inl (h, e)) = (ap (λ x. solution-said (x .answer)) (outside h) ∙ ap some (sym e), tt)
   refuses k (inr (h, inl (d, e))) = (ap (λ x. solution-said (x .answer)) (sizes (h .0) (h .1) d) ∙ ap some (sym e), tt)
-  refuses k (inr (h, inr (d, inl (f, e)))) = (ap (λ x. solution-said (x .answer)) (text (h .0) (h .1) d) ∙ fault-is (solution-said (read .answer)) k f e, tt)
-  refuses k (inr (h, inr (d, inr (f, t)))) = absurd t
+  refuses k (inr (h, inr (d, inl (o, e)))) = (ap (λ x. solution-said (x .answer)) (past-sets (h .0) (h .1) d o) ∙ ap some (sym e), tt)
+  refuses k (inr (h, inr (d, inr (o, inl (f, e))))) = (ap (λ x. solution-said (x .answer)) (text (h .0) (h .1) d o) ∙ fault-is (solution-said (read .answer)) k f e, tt)
+  refuses k (inr (h, inr (d, inr (o, inr (f, t))))) = absurd t
 
   accepts : Accepted (to-begin a τ r ++ (no-fault (solution-said (read .answer)) ∷ [])) → solution-said (reply .answer) ≡ none
-  accepts (h, (d, (e, t))) = ap (λ x. solution-said (x .answer)) (text (h .0) (h .1) d) ∙ e
+  accepts (h, (d, (o, (e, t)))) = ap (λ x. solution-said (x .answer)) (text (h .0) (h .1) d o) ∙ e
 
   pub reading-judged : JudgesReading a τ r read reply
-  reading-judged = record { judged = judged decided refuses accepts; kept = stays; moved = λ (h, (d, t)). ap (λ x. x .reader) (text (h .0) (h .1) d) }
+  reading-judged = record { judged = judged decided refuses accepts; kept = stays; moved = λ (h, (d, (o, t))). ap (λ x. x .reader) (text (h .0) (h .1) d o) }
     where
       stays : (k : Code) → TurnedDown (to-begin a τ r) k → reply .reader ≡ r
       stays k (inl (h, e)) = ap (λ x. x .reader) (outside h)
       stays k (inr (h, inl (d, e))) = ap (λ x. x .reader) (sizes (h .0) (h .1) d)
-      stays k (inr (h, inr (d, t))) = absurd t
+      stays k (inr (h, inr (d, inl (o, e)))) = ap (λ x. x .reader) (past-sets (h .0) (h .1) d o)
+      stays k (inr (h, inr (d, inr (o, t)))) = absurd t
 
 -- ---- what a text is refused with
 
@@ -79,7 +85,7 @@ module _ (r : Reader) (c : Code) (e : solution-said (told r .answer) ≡ some c)
 
 -- ---- whole texts
 
-pub whole-judged : (a : Automaton) (τ : Target) → Valid a → Dimensioned τ → (us : List (List ℕ)) (q : Reader) (e : Reply) → Reads a τ fresh us q → Ends a τ q e
+pub whole-judged : (a : Automaton) (τ : Target) → Valid a → Proper τ → (us : List (List ℕ)) (q : Reader) (e : Reply) → Reads a τ fresh us q → Ends a τ q e
     → solution-said (e .answer) ≡ fault (outcome (last a τ) (kept a τ) (joined us))
 whole-judged a τ v d us q e k c =
     go (outcome (last a τ) (kept a τ) (joined us)) refl

@@ -33,8 +33,8 @@ infixl 65 _∪_
 abbrev pub _∪_ : ℕ → ℕ → ℕ
 I ∪ K = bitOr I K
 
--- Group 4's "exactly one of "I∪K is all m" and "J∪F is all s" is true", F the marks of the reference's transition from v by l: what the two
--- acceptances say of these sets.
+-- "Group 4 keeps a clause where the two acceptances disagree on I∪K and J∪F": exactly one of them says yes. F are the marks of the reference's
+-- transition from v by l.
 unfoldable pub exactly-one : Task → (v l I J K : ℕ) → Bool
 exactly-one T v l I J K =
     let F = marks-of (T .reference) v l in
@@ -105,8 +105,8 @@ module _ (T : Task) (num : Var → ℕ) where
       each n λ q. each n λ p. each n λ t. each r λ u. each r λ v. each L λ l. each (2 ^ m) λ I. each (2 ^ s) λ J. each (2 ^ m) λ K.
       only (T .kept u v && T .kept u (R .step v l)) (extension q p t u v l I J K)
 
-  -- 4. "By q, p, v, l, I, J, K, only where exactly one of "I∪K is all m" and "J∪F is all s" is true: -path(q,w,p,v,I,J), -step(p,l,q), the
-  -- marks as in 3 with t = q." Here too only what is kept.
+  -- 4. "By q, p, v, l, I, J, K", only "where the two acceptances disagree on I∪K and J∪F": "-path(q,w,p,v,I,J), -step(p,l,q), the marks as in 3
+  -- with t = q." Here too only what is kept.
   unfoldable pub closure : (q p v l I J K : ℕ) → List ℤ
   closure q p v l I J K =
       let w = R .step v l in

@@ -1,18 +1,19 @@
 -- DEFINITIONS, 3 of 3: what the caller names for a clause file beside the reference, and the file for it: "the same reference, n and m, the same of
--- whatever else the caller names for the file". So far that is n and m. The clauses, the numbers, V and the kind of tables are said here and nowhere else.
+-- whatever else the caller names for the file". That is n, m and the candidate's acceptance. The clauses, the numbers, V and the kind of tables are said here and nowhere else.
 use mathlib.Core.Bool.{Bool, true}
 use mathlib.Core.List.{List}
 use Prim.Native.Nat.{ℕ, _+_, _*_}
 use lib.IntN.{ℤ}
 use Rattle.meaning.specs.Automata.{Aut}
-use Rattle.meaning.specs.Tests.{all}
+use Rattle.meaning.specs.BitSet.{has, set-of}
 use Rattle.encoding.specs.Variables.{Task, Var, MarkBlock, PathBlock, transition-marks, all-paths, number, variables}
 use Rattle.encoding.specs.Clauses.{file}
 
--- "n states (1 to 8), m sets (0 to 4)"
+-- "n states (1 to 8), m sets (0 to 4)"; "The caller names the candidate's acceptance", as "the yes or no for each set of marks": bit M for the set of marks M
 pub record Named : Type 0 where
   pub n : ℕ
   pub m : ℕ
+  pub acceptance : ℕ
 
 -- every choice of marks is of the kind
 abbrev pub AnyMarks : (ℕ → ℕ → ℕ → Bool) → Type 0
@@ -23,9 +24,9 @@ abbrev pub KindFor : Named → (ℕ → ℕ → ℕ → Bool) → Type 0
 KindFor t = AnyMarks
 
 module _ (R : Aut) (t : Named) where
-  -- the candidate accepts "if every set is met infinitely often", and there are path variables between any two reference states
+  -- the candidate accepts as named, and there are path variables between any two reference states
   abbrev pub taskFor : Task
-  taskFor = record { reference = R; n = t .n; m = t .m; accept = all (t .m); kept = λ u v. true }
+  taskFor = record { reference = R; n = t .n; m = t .m; accept = λ S. has (t .acceptance) (set-of (t .m) S); kept = λ u v. true }
 
   -- a mark for each transition
   abbrev pub marksFor : MarkBlock

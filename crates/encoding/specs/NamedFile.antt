@@ -1,11 +1,12 @@
 -- THE FILE THAT THE CALLER NAMES: the theorem, the numbers and the counts for it.
-use mathlib.Core.Path.{_≡_, refl, _∙_}
+use mathlib.Core.Path.{_≡_, refl, ap, _∙_}
 use Prim.Native.Nat.{ℕ, _+_, _-_, _*_, _^_, _≤_, _<_}
 use native.Mathlib.Omega.{arith}
 use lib.Arith.{digits-lt}
 use lib.ListN.{length}
 use Rattle.meaning.specs.Automata.{Aut, WellFormed}
-use Rattle.meaning.specs.TestLaws.{all-same}
+use Rattle.meaning.specs.BitSet.{has}
+use Rattle.meaning.specs.MarkSets.{set-of-same}
 use Rattle.encoding.specs.Variables.{Task, Var, step, mark, path, Present}
 use Rattle.encoding.specs.Clauses.{group₄}
 use Rattle.encoding.specs.Named.{Named, KindFor, taskFor, marksFor, pathsFor, numberFor, tableVariablesFor, variablesFor, fileFor}
@@ -68,7 +69,7 @@ module _ (R : Aut) (t : Named) where
 
   -- THE THEOREM
   pub named-well-posed : WellFormed R → 0 < n → WellPosed (taskFor R t)
-  named-well-posed F some = record { formed = F; own-sets = all-same m; some-state = some; cycles-kept = λ u v x y hu ox oy ex ey. refl }
+  named-well-posed F some = record { formed = F; own-sets = λ S T e. ap (has (t .acceptance)) (set-of-same m S T e); some-state = some; cycles-kept = λ u v x y hu ox oy ex ey. refl }
 
   pub named-encodes : WellFormed R → 0 < n → Encodes (taskFor R t) (numberFor R t) (variablesFor R t) (KindFor t)
   named-encodes F some = encodes (named-well-posed F some) named-numbering

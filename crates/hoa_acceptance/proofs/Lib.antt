@@ -1,2 +1,2 @@
 pub mod Tokens
-mod ConditionLaws
+mod AcceptanceLaws

@@ -1,26 +1,22 @@
 -- Laws of a token that may stand next.
-use mathlib.Core.Path.{_≡_, refl, sym, ap, _∙_}
-use mathlib.Core.Logic.{_≢_}
+use mathlib.Core.Path.{_≡_, refl, ap, _∙_}
 use mathlib.Core.Bool.{Bool, true, false}
 use mathlib.Core.List.{List, [], _∷_}
 use mathlib.Core.Option.{Option, none}
 use Prim.Native.Nat.{ℕ, _≤_, _<_}
 use native.Mathlib.Omega.{arith}
-use borrow.Author.Tests.{eq-eqb, ne-eqb}
 use lib.ListN.{length}
 use lib.Seq.{slice}
 use denote.Enum.Declared.{tagOf, declared}
 use types.Run.{OneOf, miss}
 use Rattle.hoa_text.specs.Basics.{option, same}
-use Rattle.hoa_text.specs.Tokens.{word, number, Stream, stands, over, broken, left}
+use Rattle.hoa_text.specs.Tokens.{word, Stream, stands, over, broken, left}
 use Rattle.hoa_text.specs.Tokens as Hoa
-use Rattle.hoa_text.specs.Grammar.{wordOf, numberOf, isNumber, next, rest, peek}
+use Rattle.hoa_text.specs.Grammar.{wordOf, next, rest, peek}
 use Rattle.hoa_tokens.specs.declared.Token.{Token}
 use Rattle.hoa_tokens.specs.declared.Token.the-variants.{Word, Item, Number, Quoted, Sign, Body, End, Abort, Unread, Over, Broken}
 use Rattle.hoa_tokens.specs.Answers.{stream, Reads}
-use Rattle.hoa_offsets.specs.Behind.{isSignOf, Behind}
 use Rattle.hoa_tokens.proofs.Token.{enum}
-use Rattle.hoa_tokens.proofs.Due.{number-missing}
 use Rattle.hoa_acceptance.specs.Answers.{Past, isWordOf}
 
 -- ---- which token stands next
@@ -65,25 +61,3 @@ module _ (w s : List ℕ) (i : ℕ) where
 
   pub word-missing : (t : Token) → Reads s i t → OneOf (1 ∷ 2 ∷ 3 ∷ 4 ∷ 5 ∷ 6 ∷ 7 ∷ 8 ∷ 9 ∷ 10 ∷ []) (tagOf (declared enum) t) → Past (isWordOf w) s i i
   word-missing t h g = past-missing wordOf (same w) s i (ap (peek wordOf) (h .is) ∙ no-word s t g)
-
--- ---- numbers and signs
-
-module _ (n : ℕ) (s : List ℕ) (i : ℕ) where
-  pub number-stands : (o v e : ℕ) → Reads s i (Number o v e) → v ≡ n → Past (isNumber n) s i e
-  number-stands o v e h k =
-      past-token (isNumber n) s i o e (number v) (h .is) (eq-eqb n v (sym k)) (omega (arith, h .lies .from, h .lies .longer)) (h .lies .to)
-
-  pub number-differs : (o v e : ℕ) → Reads s i (Number o v e) → v ≢ n → Past (isNumber n) s i i
-  number-differs o v e h k = past-absent (isNumber n) s i (ap (next (isNumber n)) (h .is) ∙ ne-eqb n v (λ q. k (sym q)))
-
-  pub no-number : (t : Token) → Reads s i t → OneOf (0 ∷ 1 ∷ 3 ∷ 4 ∷ 5 ∷ 6 ∷ 7 ∷ 8 ∷ 9 ∷ 10 ∷ []) (tagOf (declared enum) t) → Past (isNumber n) s i i
-  no-number t h g = past-missing numberOf (λ m. isNumber n (number m)) s i (number-missing s i t h g)
-
-pub sign-past : (s : List ℕ) (i b r : ℕ) → Behind s i b r → Past (isSignOf b) s i r
-sign-past s i b r h = record {
-  from = h .from;
-  absent = h .absent;
-  present = λ n. ap (next (isSignOf b)) (h .present n) ∙ rw (eq-eqb b b refl);
-  behind = λ n. ap rest (h .present n);
-  to = h .to;
-}

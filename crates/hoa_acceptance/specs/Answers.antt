@@ -7,26 +7,26 @@ use Prim.Native.Nat.{ℕ, _≤_, _<_}
 use lib.ListN.{length}
 use Rattle.hoa_text.specs.Basics.{option, same}
 use Rattle.hoa_text.specs.Tokens.{Token, left}
-use Rattle.hoa_text.specs.Grammar.{wordOf, next, rest, refuses}
-use Rattle.hoa_text.specs.Header.{Items, setsRead, setsItem}
+use Rattle.hoa_text.specs.Grammar.{wordOf, next, rest, gives, refuses, Parsed}
+use Rattle.hoa_text.specs.Header.{Items, withAcceptance, setsItem}
 use Rattle.hoa_acceptance.specs.declared.SetsRead.{SetsRead}
 use Rattle.hoa_acceptance.specs.declared.SetsRead.the-variants.{Sets, Refused}
 
 -- ---- what stands behind `Acceptance:`
 
--- from i on stand m sets and their condition, and the text behind begins at e; h are the items before
-pub record SetsFrom (s : List ℕ) (i : ℕ) (h : Items) (m e : ℕ) : Type 0 where
-  pub is : setsItem h (left s i) ≡ setsRead h m (left s e)
+-- x gives m sets and the acceptance p beside the items h, and the text behind begins at e, which is past i
+pub record SetsFrom (s : List ℕ) (i : ℕ) (h : Items) (x : Parsed Items) (m p e : ℕ) : Type 0 where
+  pub is : x ≡ gives (withAcceptance h m p, left s e)
   pub from : i < e
   pub to : e ≤ length s
 
-abbrev pub SetsAnswered : List ℕ → ℕ → Items → SetsRead → Type 0
-SetsAnswered s i h (Sets m e) = SetsFrom s i h m e
-SetsAnswered s i h (Refused r) = setsItem h (left s i) ≡ refuses r
+abbrev pub SetsAnswered : List ℕ → ℕ → Items → Parsed Items → SetsRead → Type 0
+SetsAnswered s i h x (Sets m p e) = SetsFrom s i h x m p e
+SetsAnswered s i h x (Refused r) = x ≡ refuses r
 
--- whatever the items before
+-- from i on, whatever the items before
 abbrev pub ReadsSets : List ℕ → ℕ → SetsRead → Type 0
-ReadsSets s i r = (h : Items) → SetsAnswered s i h r
+ReadsSets s i r = (h : Items) → SetsAnswered s i h (setsItem h (left s i)) r
 
 -- ---- a token that may stand next
 

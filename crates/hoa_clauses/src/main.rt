@@ -1,4 +1,4 @@
-// Prints the clause file for the reference on standard input and the candidate's numbers of states and sets.
+// Prints the clause file for the reference on standard input and the candidate's numbers of states and sets, with Inf of all sets.
 use clause_sizes::Target;
 use console_clauses::print_file;
 use console_input::TEXT;
@@ -28,11 +28,8 @@ fn main() {
         return;
     }
     let reference = given.automaton;
-    let target = Target {
-        states: n as usize,
-        sets: m as usize,
-    };
-    print_file(reference, target);
+    let target = Target::every(n as usize, m as usize);
+    print_file(reference, target, b"hoa_clauses");
 }
 
 fn usage() {

@@ -8,6 +8,7 @@ use hoa_offsets::behind;
 use hoa_offsets::offset;
 use hoa_tokens::Token;
 use hoa_tokens::next_token;
+use hoa_tokens::number_here;
 use hoa_words::FALSE;
 use hoa_words::FIN;
 use hoa_words::INF;
@@ -23,7 +24,7 @@ ghost use Rattle.hoa_text.specs.Tokens.{digit, left};
 ghost use Rattle.hoa_text.specs.Formulas.{proposition, declared, setOf, atom};
 ghost use Rattle.hoa_text.specs.Formulas as Formulas;
 ghost use Rattle.hoa_formulas.specs.Answers.{Answers, Satisfy};
-ghost use Rattle.hoa_formulas.specs.Parts.{atomsOf, ConstantAt, ConstantWord, SetWord};
+ghost use Rattle.hoa_formulas.specs.Parts.{atomsOf, ConstantAt, ConstantWord, SetWord, Given};
 
 // Whether `!` is an operator: not of a condition.
 pub fn negates(over: Atoms) -> bool
@@ -41,7 +42,7 @@ pub fn numbered(text: &[u8], at: usize, over: Atoms) -> FormulaRead
     ensures { λ r. ⌜ Answers (now (text .entry)) at (atom (atomsOf over) (left (now (text .entry)) at)) r ⌝ }
 {
     match over {
-        Atoms::Propositions(count) => declared(text, at, count),
+        Atoms::Propositions(count) => proposition(text, at, count),
         Atoms::Sets(count) => FormulaRead::Refused(Refusal::Form(offset(text, at))),
     }
 }
@@ -116,19 +117,37 @@ fn set_in_brackets(text: &[u8], at: usize, sets: usize) -> FormulaRead
     closed(text, declared(text, next, sets))
 }
 
+// A proposition's number, of so many that are declared: it mostly stands right there.
+fn proposition(text: &[u8], at: usize, count: usize) -> FormulaRead
+    ensures { λ r. ⌜ Answers (now (text .entry)) at (declared count (left (now (text .entry)) at)) r ⌝ }
+{
+    let here = number_here(text, at);
+    let value = here.value;
+    let end = here.end;
+    if end == at {
+        return declared(text, at, count);
+    }
+    number(at, value, end, count)
+}
+
 // A number, of so many that are declared.
 fn declared(text: &[u8], at: usize, count: usize) -> FormulaRead
     ensures { λ r. ⌜ Answers (now (text .entry)) at (declared count (left (now (text .entry)) at)) r ⌝ }
 {
     match next_token(text, at) {
-        Token::Number(offset, value, end) => {
-            if value < count {
-                FormulaRead::Members(letters_with(value), end)
-            } else {
-                FormulaRead::Refused(Refusal::Undeclared(offset))
-            }
-        }
+        Token::Number(offset, value, end) => number(offset, value, end, count),
         _ => FormulaRead::Refused(Refusal::Form(offset(text, at))),
+    }
+}
+
+// The number `value`, from `start` up to `end`, of so many that are declared.
+fn number(start: usize, value: usize, end: usize, count: usize) -> FormulaRead
+    ensures { λ r. ⌜ Given start value end count r ⌝ }
+{
+    if value < count {
+        FormulaRead::Members(letters_with(value), end)
+    } else {
+        FormulaRead::Refused(Refusal::Undeclared(start))
     }
 }
 

@@ -18,7 +18,7 @@ use Rattle.refusals.specs.declared.Refusal.the-variants as Because
 use Rattle.hoa_text.specs.Basics.{isSome}
 use Rattle.hoa_text.specs.Tokens.{Stream, stands, over, broken, left}
 use Rattle.hoa_text.specs.Grammar.{next, rest, at, Result, refuses, Parsed, then}
-use Rattle.hoa_text.specs.Header.{Items, once, statesGiven, statesItem, startGiven, startItem, namesItem, setsItem, plain, skipped}
+use Rattle.hoa_text.specs.Header.{Items, once, statesGiven, statesItem, startGiven, startItem, namesItem, withAcceptance, setsItem, plain, skipped}
 use Rattle.hoa_tokens.specs.declared.Token.{Token}
 use Rattle.hoa_tokens.specs.declared.Token.the-variants.{Number}
 use Rattle.hoa_tokens.specs.Answers.{Reads}
@@ -40,19 +40,19 @@ use Rattle.hoa_header.specs.Kept.{kept, Reaches, ReadsOnce, ReadsStates,
 
 abbrev pub withStates : Code.Items → ℕ → Code.Items
 withStates c n =
-    record { counted = true; states = n; started = c .started; start = c .start; offset = c .offset; named = c .named; names = c .names; accepting = c .accepting; sets = c .sets }
+    record { counted = true; states = n; started = c .started; start = c .start; offset = c .offset; named = c .named; names = c .names; accepting = c .accepting; sets = c .sets; acceptance = c .acceptance }
 
 abbrev pub withStart : Code.Items → ℕ → ℕ → Code.Items
 withStart c n p =
-    record { counted = c .counted; states = c .states; started = true; start = n; offset = p; named = c .named; names = c .names; accepting = c .accepting; sets = c .sets }
+    record { counted = c .counted; states = c .states; started = true; start = n; offset = p; named = c .named; names = c .names; accepting = c .accepting; sets = c .sets; acceptance = c .acceptance }
 
 abbrev pub withNames : Code.Items → Names → Code.Items
 withNames c n =
-    record { counted = c .counted; states = c .states; started = c .started; start = c .start; offset = c .offset; named = true; names = n; accepting = c .accepting; sets = c .sets }
+    record { counted = c .counted; states = c .states; started = c .started; start = c .start; offset = c .offset; named = true; names = n; accepting = c .accepting; sets = c .sets; acceptance = c .acceptance }
 
-abbrev pub withSets : Code.Items → ℕ → Code.Items
-withSets c m =
-    record { counted = c .counted; states = c .states; started = c .started; start = c .start; offset = c .offset; named = c .named; names = c .names; accepting = true; sets = m }
+abbrev pub withSets : Code.Items → ℕ → ℕ → Code.Items
+withSets c m p =
+    record { counted = c .counted; states = c .states; started = c .started; start = c .start; offset = c .offset; named = c .named; names = c .names; accepting = true; sets = m; acceptance = p }
 
 -- ---- once
 
@@ -97,7 +97,7 @@ module _ (o n e : ℕ) (c : Code.Items) where
   states-kept some-states few h k s i l m =
       let f : (ltb 0 n && leb n 16) ≡ true = and-true (lt-ltb 0 n (omega arith)) (le-leb n 16 few) in
       record {
-        items = record { states = some n; start = h .start; names = h .names; sets = h .sets };
+        items = record { states = some n; start = h .start; names = h .names; accepting = h .accepting };
         is = rw f;
         keeps = ap (λ c. withStates c n) k;
         from = l;
@@ -139,7 +139,7 @@ module _ (s : List ℕ) (o i : ℕ) (c : Code.Items) where
     pub start-kept : (p n e : ℕ) → Reads s i (Number p n e)
         → ReadsStart s o i c (record { step = Next e; items = withStart c n p })
     start-kept p n e h = came-read (λ h. h .start) startItem s o i c first-start (record { step = Next e; items = withStart c n p }) λ k q. record {
-      items = record { states = k .states; start = some (n, p); names = k .names; sets = k .sets };
+      items = record { states = k .states; start = some (n, p); names = k .names; accepting = k .accepting };
       is = ap (startItem k) (h .is);
       keeps = ap (λ c. withStart c n p) q;
       from = omega (arith, h .lies .from, h .lies .longer);
@@ -159,7 +159,7 @@ module _ (s : List ℕ) (o i : ℕ) (c : Code.Items) where
       go : (h : Items) → c ≡ kept h → (n : Names) (a : Step) → NamesAnswered s i h n a
           → Reaches s i (namesItem h (left s i)) (withNames c n) a
       go h k n (Next e) g = record {
-        items = record { states = h .states; start = h .start; names = some (g .words); sets = h .sets };
+        items = record { states = h .states; start = h .start; names = some (g .words); accepting = h .accepting };
         is = g .is;
         keeps =
             ap (λ c. withNames c n) k
@@ -173,23 +173,23 @@ module _ (s : List ℕ) (o i : ℕ) (c : Code.Items) where
 
 module _ (s : List ℕ) (o i : ℕ) (c : Code.Items) where
   pub sets-twice : (r : ItemRead) → r ≡ record { step = Refused (Because.Item o); items = c } → c .accepting ≡ true → ReadsAcceptance s o i c r
-  sets-twice r e f = came-twice (λ h. h .sets) setsItem s o i c r e (λ h k. sym (ap (λ c. c .accepting) k) ∙ f)
+  sets-twice r e f = came-twice (λ h. h .accepting) setsItem s o i c r e (λ h k. sym (ap (λ c. c .accepting) k) ∙ f)
 
   module _ (new : c .accepting ≡ false) (x : SetsRead) (g : ReadsSets s i x) where
-    first-sets : (h : Items) → c ≡ kept h → isSome (h .sets) ≡ false
+    first-sets : (h : Items) → c ≡ kept h → isSome (h .accepting) ≡ false
     first-sets h k = sym (ap (λ c. c .accepting) k) ∙ new
 
     pub sets-refused : (z : Refusal) → x ≡ Given.Refused z → (r : ItemRead) → r ≡ record { step = Refused z; items = c } → ReadsAcceptance s o i c r
-    sets-refused z q r e = came-refused (λ h. h .sets) setsItem s o i c first-sets r z e (λ h. subst (SetsAnswered s i h) q (g h))
+    sets-refused z q r e = came-refused (λ h. h .accepting) setsItem s o i c first-sets r z e (λ h. subst (SetsAnswered s i h (setsItem h (left s i))) q (g h))
 
-    pub sets-kept : (m e : ℕ) → x ≡ Given.Sets m e
-        → ReadsAcceptance s o i c (record { step = Next e; items = withSets c m })
-    sets-kept m e q = came-read (λ h. h .sets) setsItem s o i c first-sets (record { step = Next e; items = withSets c m }) λ h k.
-        let a : SetsFrom s i h m e = subst (SetsAnswered s i h) q (g h) in
+    pub sets-kept : (m p e : ℕ) → x ≡ Given.Sets m p e
+        → ReadsAcceptance s o i c (record { step = Next e; items = withSets c m p })
+    sets-kept m p e q = came-read (λ h. h .accepting) setsItem s o i c first-sets (record { step = Next e; items = withSets c m p }) λ h k.
+        let a : SetsFrom s i h (setsItem h (left s i)) m p e = subst (SetsAnswered s i h (setsItem h (left s i))) q (g h) in
         record {
-          items = record { states = h .states; start = h .start; names = h .names; sets = some m };
+          items = withAcceptance h m p;
           is = a .is;
-          keeps = ap (λ c. withSets c m) k;
+          keeps = ap (λ c. withSets c m p) k;
           from = a .from;
           to = a .to;
         }

@@ -17,12 +17,12 @@ use Rattle.automaton.specs.declared.Automaton.{Automaton}
 use Rattle.refusals.specs.declared.Refusal.{Refusal}
 use Rattle.refusals.specs.declared.Refusal.the-variants.{Form, Undeclared}
 use Rattle.refusals.specs.declared.Refusal.the-variants as Because
-use Rattle.automaton.specs.Value.{empty, everySet}
+use Rattle.automaton.specs.Value.{empty}
 use Rattle.automaton.specs.Bytes.{bytes}
 use Rattle.hoa_text.specs.Basics.{option, isSome, begins}
 use Rattle.hoa_text.specs.Tokens.{item, Stream, stands, left}
 use Rattle.hoa_text.specs.Grammar.{isItem, isWord, at, gives, refuses, then, repeat, expect}
-use Rattle.hoa_text.specs.Header.{Items, Header, opening, opened, itemRead, noItems, header}
+use Rattle.hoa_text.specs.Header.{Accepting, Items, Header, opening, opened, itemRead, noItems, header}
 use Rattle.hoa_text.specs.Repetition.{repeat-again, repeat-done, repeat-refuses}
 use Rattle.hoa_text.specs.HeaderProgress.{item-shrinks}
 use Rattle.hoa_tokens.specs.declared.Token.{Token}
@@ -47,14 +47,14 @@ zeros : (n : ℕ) → replicate {A = ℕ} n 0 ≡ each n (λ i. 0 ∷ [])
 zeros zero = refl
 zeros (suc n) = ap (λ k. replicate {A = ℕ} k 0) (sym (add-one n)) ∙ sym (replicate-append-replicate n 1 0) ∙ ap (λ l. l ++ (0 ∷ [])) (zeros n)
 
-pub unfilled : (c : Code.Items) (a : Automaton) (mask : ℕ) → a ≡ empty → mask ≡ everySet (c .sets)
-    → Unfilled c (record { states = c .states; start = c .start; propositions = c .names .count; sets = c .sets; acceptance = mask; lengths = c .names .lengths; names = c .names .bytes; destinations = a .destinations; marks = a .marks })
-unfilled c a mask e m g h = λ i. record {
+pub unfilled : (c : Code.Items) (a : Automaton) → a ≡ empty
+    → Unfilled c (record { states = c .states; start = c .start; propositions = c .names .count; sets = c .sets; acceptance = c .acceptance; lengths = c .names .lengths; names = c .names .bytes; destinations = a .destinations; marks = a .marks })
+unfilled c a e g h = λ i. record {
   states = h .states i;
   start = h .start i;
   propositions = h .names i .count;
   sets = h .sets i;
-  acceptance = (m ∙ ap everySet (h .sets)) i;
+  acceptance = h .acceptance i;
   lengths = h .names i .lengths;
   names = h .names i .bytes;
   destinations = (ap (λ a. a .destinations) e ∙ zeros 256) i;
@@ -80,14 +80,15 @@ module _ (h : Items) (o : ℕ) (u : Stream) where
     without-start e = rw p (missing (h .start) (refuses (Because.Item o)) _ e)
 
     module _ (x : ℕ × ℕ) (q : h .start ≡ some x) where
-      without-sets : isSome (h .sets) ≡ false → opening h o u ≡ refuses (Because.Item o)
-      without-sets e = rw (p, q) (missing (h .sets) (refuses (Because.Item o)) _ e)
+      without-sets : isSome (h .accepting) ≡ false → opening h o u ≡ refuses (Because.Item o)
+      without-sets e = rw (p, q) (missing (h .accepting) (refuses (Because.Item o)) _ e)
 
-      module _ (m : ℕ) (e : h .sets ≡ some m) where
+      module _ (y : Accepting) (e : h .accepting ≡ some y) where
         without-such-start : n ≤ x .0 → opening h o u ≡ refuses (Undeclared (x .1))
         without-such-start l = rw (p, q, e, le-ltb (x .0) n l)
 
-        with-all : x .0 < n → opening h o u ≡ gives (record { states = n; start = x .0; names = option (h .names) [] (λ ws. ws); sets = m }, u)
+        with-all : x .0 < n
+            → opening h o u ≡ gives (record { states = n; start = x .0; names = option (h .names) [] (λ ws. ws); sets = y .sets; acceptance = y .acceptance }, u)
         with-all l = rw (p, q, e, lt-ltb (x .0) n l)
 
 module _ (c : Code.Items) (o e : ℕ) where
@@ -117,8 +118,8 @@ module _ (c : Code.Items) (o e : ℕ) where
           without-sets h o u n p x p₂ (sym (ap (λ c. c .accepting) k) ∙ f)
 
       module _ (accepting : c .accepting ≡ true) where
-        sets-found : (h : Items) → c ≡ kept h → (m : ℕ) × (h .sets ≡ some m)
-        sets-found h k = found (h .sets) (sym (ap (λ c. c .accepting) k) ∙ accepting)
+        sets-found : (h : Items) → c ≡ kept h → (y : Accepting) × (h .accepting ≡ some y)
+        sets-found h k = found (h .accepting) (sym (ap (λ c. c .accepting) k) ∙ accepting)
 
         -- the value keeps them
         module _ (h : Items) (k : c ≡ kept h) (n : ℕ) (p : h .states ≡ some n) (x : ℕ × ℕ) (q : h .start ≡ some x) where
@@ -135,25 +136,26 @@ module _ (c : Code.Items) (o e : ℕ) where
         no-such-start r q f = opens-refused (Undeclared (c .offset)) r q λ h k u.
             let (n, p) = states-found h k in
             let (x, p₂) = start-found h k in
-            let (m, p₃) = sets-found h k in
-            without-such-start h o u n p x p₂ m p₃ (omega (arith, states-are h k n p x p₂, start-is h k n p x p₂))
+            let (y, p₃) = sets-found h k in
+            without-such-start h o u n p x p₂ y p₃ (omega (arith, states-are h k n p x p₂, start-is h k n p x p₂))
             ∙ ap (λ o. refuses (Undeclared o)) (sym (start-stands h k n p x p₂))
 
         pub opens : c .start < c .states → (a : Automaton) → Unfilled c a → Opens c o e (record { answer = Answer.Body e; automaton = a })
         opens f a g h k s l b =
             let (n, p) = states-found h k in
             let (x, p₂) = start-found h k in
-            let (m, p₃) = sets-found h k in
+            let (y, p₃) = sets-found h k in
             let names : List (List ℕ) = option (h .names) [] (λ ws. ws) in
-            let there : Header = record { states = n; start = x .0; names = names; sets = m } in
+            let there : Header = record { states = n; start = x .0; names = names; sets = y .sets; acceptance = y .acceptance } in
             record {
               header = there;
-              is = with-all h o (left s e) n p x p₂ m p₃ (omega (arith, states-are h k n p x p₂, start-is h k n p x p₂));
+              is = with-all h o (left s e) n p x p₂ y p₃ (omega (arith, states-are h k n p x p₂, start-is h k n p x p₂));
               automaton = g there (record {
                 states = states-are h k n p x p₂;
                 start = start-is h k n p x p₂;
                 names = ap (λ c. c .names) k;
-                sets = ap (λ c. c .sets) k ∙ ap (λ y. option y 0 (λ m. m)) p₃;
+                sets = ap (λ c. c .sets) k ∙ ap (λ z. option z 0 (λ y. y .sets)) p₃;
+                acceptance = ap (λ c. c .acceptance) k ∙ ap (λ z. option z 0 (λ y. y .acceptance)) p₃;
               });
               to = l;
               behind = b;

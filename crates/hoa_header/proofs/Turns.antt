@@ -41,7 +41,7 @@ module _ (s : List ℕ) (o e : ℕ) (c : Code.Items) (r : ItemRead) where
       module _ (no-names : same (bytes "AP") (slice o e s) ≡ false) where
         pub turn-sets : same (bytes "Acceptance") (slice o e s) ≡ true → ReadsAcceptance s o (e + 1) c r → ReadsItem s o e c r
         unfolding itemRead
-        turn-sets p g h k = as-item (once (h .sets) o (setsItem h (left s (e + 1)))) _ (rw (no-states, no-start, no-names, p)) (r .items) (r .step) (g h k)
+        turn-sets p g h k = as-item (once (h .accepting) o (setsItem h (left s (e + 1)))) _ (rw (no-states, no-start, no-names, p)) (r .items) (r .step) (g h k)
 
         module _ (no-sets : same (bytes "Acceptance") (slice o e s) ≡ false) (longer : o < e) (inside : e + 1 ≤ length s) (b : Bool) (first : b ≡ between "a" "z" (getD s o 0)) where
           is-small : small (slice o e s) ≡ b

@@ -25,8 +25,9 @@ kept h = record {
   offset = option (h .start) 0 (λ q. q .1);
   named = isSome (h .names);
   names = held (option (h .names) [] (λ ws. ws));
-  accepting = isSome (h .sets);
-  sets = option (h .sets) 0 (λ m. m);
+  accepting = isSome (h .accepting);
+  sets = option (h .accepting) 0 (λ x. x .sets);
+  acceptance = option (h .accepting) 0 (λ x. x .acceptance);
 }
 
 -- ---- one item
@@ -57,7 +58,7 @@ abbrev pub ReadsAp : List ℕ → ℕ → ℕ → Code.Items → ItemRead → Ty
 ReadsAp = ReadsOnce (λ h. h .names) namesItem
 
 abbrev pub ReadsAcceptance : List ℕ → ℕ → ℕ → Code.Items → ItemRead → Type 0
-ReadsAcceptance = ReadsOnce (λ h. h .sets) setsItem
+ReadsAcceptance = ReadsOnce (λ h. h .accepting) setsItem
 
 -- the number n at o, with the text behind it from e on
 abbrev pub StatesGiven : ℕ → ℕ → ℕ → Code.Items → ItemRead → Type 0

@@ -33,6 +33,7 @@ pub record Keeps (c : Code.Items) (g : Header) : Type 0 where
   pub start : c .start ≡ g .start
   pub names : c .names ≡ held (g .names)
   pub sets : c .sets ≡ g .sets
+  pub acceptance : c .acceptance ≡ g .acceptance
 
 abbrev pub Unfilled : Code.Items → Automaton → Type 0
 Unfilled c a = (g : Header) → Keeps c g → a ≡ made g noStates

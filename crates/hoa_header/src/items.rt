@@ -35,6 +35,7 @@ pub struct Items {
     pub names: Names,
     pub accepting: bool,
     pub sets: usize,
+    pub acceptance: u16,
 }
 
 pub struct ItemRead {
@@ -56,6 +57,7 @@ pub fn no_items() -> Items
         names,
         accepting: false,
         sets: 0,
+        acceptance: 0,
     }
 }
 
@@ -163,10 +165,11 @@ fn acceptance_item(text: &[u8], name: usize, at: usize, items: Items) -> ItemRea
     }
     match acceptance(text, at) {
         SetsRead::Refused(refusal) => refused(refusal, items),
-        SetsRead::Sets(count, end) => {
+        SetsRead::Sets(count, mask, end) => {
             let mut more = items;
             more.accepting = true;
             more.sets = count;
+            more.acceptance = mask;
             ItemRead {
                 step: Step::Next(end),
                 items: more,

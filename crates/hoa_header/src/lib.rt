@@ -116,7 +116,7 @@ fn without_transitions(items: Items) -> Automaton
     automaton.start = items.start;
     automaton.propositions = names.count;
     automaton.sets = items.sets;
-    automaton.acceptance = Automaton::every_set(items.sets);
+    automaton.acceptance = items.acceptance;
     automaton.lengths = lengths;
     automaton.names = bytes;
     automaton

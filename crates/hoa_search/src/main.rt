@@ -89,10 +89,7 @@ fn take_text(search: Search, fd: i32, path: &[u8]) -> Replayed {
     let mut prefix = [0u8; Comparison::PREFIX];
     let mut cycle = [0u8; Comparison::LOOP];
     let reference = search.reference;
-    let target = Target {
-        states: search.n,
-        sets: search.m,
-    };
+    let target = Target::every(search.n, search.m);
     let told = console_answers::read(fd, path, reference, target, &mut prefix, &mut cycle);
     if !told.whole {
         return stopped(search);

@@ -7,8 +7,8 @@ use Rattle.refusals.specs.declared.Refusal.the-variants.{Form, Size, Undeclared
 use Rattle.automaton.specs.Bytes.{bytes}
 use Rattle.hoa_text.specs.Tokens.{over, tokens}
 use Rattle.hoa_text.specs.Grammar.{gives, refuses, Parsed}
-use Rattle.hoa_text.specs.ConditionText.{conditionText}
 use Rattle.hoa_text.specs.Formulas.{Formula, proposition, top, bottom, negation, conjunction, disjunction, deepest, acceptanceFormula}
+use Rattle.hoa_text.specs.Written.{conditionText}
 
 -- ---- read
 

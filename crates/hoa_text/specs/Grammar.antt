@@ -4,7 +4,6 @@ use mathlib.Core.List.{List}
 use mathlib.Core.Option.{Option, none, some}
 use Prim.Native.Nat.{ℕ, zero, suc}
 use Prim.Native.String.{String}
-use lib.Dec.{eqb}
 use Rattle.refusals.specs.declared.Refusal.{Refusal}
 use Rattle.refusals.specs.declared.Refusal.the-variants.{Form}
 use Rattle.automaton.specs.Bytes.{bytes}
@@ -61,9 +60,6 @@ isItem w t = option (itemOf t) false (same (bytes w))
 
 abbrev pub isSign : String → Token → Bool
 isSign w t = option (signOf t) false (same (bytes w))
-
-abbrev pub isNumber : ℕ → Token → Bool
-isNumber n t = option (numberOf t) false (eqb n)
 
 -- ---- the next token
 

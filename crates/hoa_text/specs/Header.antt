@@ -1,22 +1,30 @@
--- DEFINITIONS, 5 of 8: the header. Sentences in quotes are document 01's; the numbers 1 to 4 are those of its table "What is turned down".
+-- DEFINITIONS, 5 of 8: the header. Sentences in quotes are document 01's, and those of the acceptance document 02's; the numbers 1 to 4 are those of the
+-- table "What is turned down".
 use mathlib.Core.Bool.{Bool, true, false, cond, _&&_, _||_}
 use mathlib.Core.List.{List, [], _∷_, _++_}
 use mathlib.Core.Option.{Option, none, some}
-use Prim.Native.Nat.{ℕ, zero, suc, _+_}
+use Prim.Native.Nat.{ℕ, zero, suc, _^_}
 use lib.Dec.{ltb, leb}
 use lib.ListN.{length}
+use Rattle.meaning.specs.BitSet.{set-of}
 use Rattle.automaton.specs.Value.{printable}
 use Rattle.refusals.specs.declared.Refusal.the-variants.{Form, Size, Item, Undeclared}
 use Rattle.hoa_text.specs.Basics.{option, isSome, same}
 use Rattle.hoa_text.specs.Tokens.{Token, Stream, stands, over, broken, between}
-use Rattle.hoa_text.specs.Grammar.{wordOf, itemOf, numberOf, quotedOf, isWord, isItem, isSign, isNumber, next, rest, at, Result, gives, refuses, Parsed, then, due, expect, Turn, again, done, repeat, onward}
+use Rattle.hoa_text.specs.Grammar.{wordOf, itemOf, numberOf, quotedOf, isWord, isItem, isSign, next, rest, at, Result, gives, refuses, Parsed, then, due, expect, Turn, again, done, repeat, onward}
+use Rattle.hoa_text.specs.Formulas.{Formula, holds, acceptanceFormula}
+
+-- how many sets there are, and "the acceptance as the yes or no for each set of marks": bit x for the set of marks x
+pub record Accepting : Type 0 where
+  pub sets : ℕ
+  pub acceptance : ℕ
 
 -- the items read so far; of the start its number, and that number's offset
 pub record Items : Type 0 where
   pub states : Option ℕ
   pub start : Option (ℕ × ℕ)
   pub names : Option (List (List ℕ))
-  pub sets : Option ℕ
+  pub accepting : Option Accepting
 
 -- a header that is read
 pub record Header : Type 0 where
@@ -24,6 +32,7 @@ pub record Header : Type 0 where
   pub start : ℕ
   pub names : List (List ℕ)
   pub sets : ℕ
+  pub acceptance : ℕ
 
 -- 3, at the second: "States, Start, AP or Acceptance twice"
 abbrev pub once : {A B : Type 0} → Option A → ℕ → Result B → Result B
@@ -34,7 +43,7 @@ once (some a) o r = refuses (Item o)
 
 abbrev pub statesGiven : Items → ℕ → ℕ → Stream → Parsed Items
 statesGiven h o n s =
-    cond (ltb 0 n && leb n 16) (gives (record { states = some n; start = h .start; names = h .names; sets = h .sets }, s)) (refuses (Size o))
+    cond (ltb 0 n && leb n 16) (gives (record { states = some n; start = h .start; names = h .names; accepting = h .accepting }, s)) (refuses (Size o))
 
 abbrev pub statesItem : Items → Stream → Parsed Items
 statesItem h s = then (due numberOf s) (statesGiven h (at s))
@@ -42,7 +51,7 @@ statesItem h s = then (due numberOf s) (statesGiven h (at s))
 -- ---- "`Start:` once with one number". That number q at o
 
 abbrev pub startGiven : Items → ℕ → ℕ → Stream → Parsed Items
-startGiven h o q s = gives (record { states = h .states; start = some (q, o); names = h .names; sets = h .sets }, s)
+startGiven h o q s = gives (record { states = h .states; start = some (q, o); names = h .names; accepting = h .accepting }, s)
 
 abbrev pub startItem : Items → Stream → Parsed Items
 startItem h s = then (due numberOf s) (startGiven h (at s))
@@ -73,7 +82,7 @@ naming zero ws s = gives (ws, s)
 naming (suc n) ws s = then (due quotedOf s) (λ w u. nameGiven ws (at s) w (naming n (ws ++ (w ∷ [])) u))
 
 abbrev pub namesRead : Items → List (List ℕ) → Stream → Parsed Items
-namesRead h ws s = gives (record { states = h .states; start = h .start; names = some ws; sets = h .sets }, s)
+namesRead h ws s = gives (record { states = h .states; start = h .start; names = some ws; accepting = h .accepting }, s)
 
 abbrev pub namesGiven : Items → ℕ → ℕ → Stream → Parsed Items
 namesGiven h o k s =
@@ -83,39 +92,21 @@ namesGiven h o k s =
 abbrev pub namesItem : Items → Stream → Parsed Items
 namesItem h s = then (due numberOf s) (namesGiven h (at s))
 
--- ---- "`Acceptance:` once". Its number m at o; 2: "sets over 4"
+-- ---- "`Acceptance:` once". Its number m at o; 2: "sets over 4". Then the formula, "read from Inf, Fin, &, |, t, f and brackets"
 
-abbrev pub inf : ℕ → List (Token → Bool) → List (Token → Bool)
-inf i ps = isWord "Inf" ∷ isSign "(" ∷ isNumber i ∷ isSign ")" ∷ ps
+-- those of the sets of marks, of m sets, of which the formula f says yes; "no past its sets"
+abbrev pub acceptanceOf : ℕ → Formula → ℕ
+acceptanceOf m f = set-of (2 ^ m) (holds f)
 
--- n more from i on, "with each set once, ascending"
-abbrev pub infs : ℕ → ℕ → List (Token → Bool)
-infs zero i = []
-infs (suc n) i = isSign "&" ∷ inf i (infs n (i + 1))
+abbrev pub withAcceptance : Items → ℕ → ℕ → Items
+withAcceptance h m x = record { states = h .states; start = h .start; names = h .names; accepting = some (record { sets = m; acceptance = x }) }
 
--- "Acceptance is `0 t`, or the count and Inf(0)&Inf(1)&.."
-abbrev pub condition : ℕ → List (Token → Bool)
-condition zero = isWord "t" ∷ []
-condition (suc n) = inf 0 (infs n 1)
-
--- "the first token before the next item name that departs from this gives 3, and so does an item name or `--BODY--` that comes too soon";
--- where there is no token, 1
-abbrev pub departs : Stream → Parsed ℕ
-departs s = cond (next (λ t. true) s) (refuses (Item (at s))) (refuses (Form (at s)))
-
--- the tokens of the condition that are left, with m sets, and then an item name or the body
-abbrev pub accepting : ℕ → List (Token → Bool) → Stream → Parsed ℕ
-accepting m [] s = cond (next (λ t. isSome (itemOf t) || isSign "--BODY--" t) s) (gives (m, s)) (departs s)
-accepting m (p ∷ ps) s =
-    let r = accepting m ps (rest s) in
-    cond (next p s) r (departs s)
-
-abbrev pub setsRead : Items → ℕ → Stream → Parsed Items
-setsRead h m s = gives (record { states = h .states; start = h .start; names = h .names; sets = some m }, s)
+abbrev pub setsRead : Items → ℕ → Formula → Stream → Parsed Items
+setsRead h m f s = gives (withAcceptance h m (acceptanceOf m f), s)
 
 abbrev pub setsGiven : Items → ℕ → ℕ → Stream → Parsed Items
 setsGiven h o m s =
-    let r = then (accepting m (condition m) s) (setsRead h) in
+    let r = then (acceptanceFormula m s) (setsRead h m) in
     cond (leb m 4) r (refuses (Size o))
 
 abbrev pub setsItem : Items → Stream → Parsed Items
@@ -143,20 +134,21 @@ abbrev pub opening : Items → ℕ → Stream → Parsed Header
 opening h o s =
     option (h .states) (refuses (Item o)) λ n.
     option (h .start) (refuses (Item o)) λ q.
-    option (h .sets) (refuses (Item o)) λ m.
-    cond (ltb (q .0) n) (gives (record { states = n; start = q .0; names = option (h .names) [] (λ ws. ws); sets = m }, s)) (refuses (Undeclared (q .1)))
+    option (h .accepting) (refuses (Item o)) λ x.
+    let g : Header = record { states = n; start = q .0; names = option (h .names) [] (λ ws. ws); sets = x .sets; acceptance = x .acceptance } in
+    cond (ltb (q .0) n) (gives (g, s)) (refuses (Undeclared (q .1)))
 
 abbrev pub opened : Header → Stream → Result (Turn Items (Header × Stream))
 opened g s = gives (done (g, s))
 
--- ---- "Then in any order"; "any other item is refused with 1, as is a text that ends early, at its length"
+-- ---- "Then in any order"; "any other item is refused with 1, as is a text that ends early, at its length"; so is whatever else follows an item
 
 unfoldable pub itemRead : Items → Stream → Result (Turn Items (Header × Stream))
 itemRead h s =
     let states = onward (once (h .states) (at s) (statesItem h (rest s))) in
     let start = onward (once (h .start) (at s) (startItem h (rest s))) in
     let names = onward (once (h .names) (at s) (namesItem h (rest s))) in
-    let sets = onward (once (h .sets) (at s) (setsItem h (rest s))) in
+    let sets = onward (once (h .accepting) (at s) (setsItem h (rest s))) in
     let other = gives (again h (skipped (rest s))) in
     let body = then (opening h (at s) (rest s)) opened in
     cond (next (isItem "States") s) states
@@ -167,7 +159,7 @@ itemRead h s =
     (cond (next (isSign "--BODY--") s) body (refuses (Form (at s))))))))
 
 abbrev pub noItems : Items
-noItems = record { states = none; start = none; names = none; sets = none }
+noItems = record { states = none; start = none; names = none; accepting = none }
 
 -- "`HOA: v1` comes first."
 abbrev pub header : Stream → Parsed Header

@@ -1,6 +1,6 @@
 -- The header: each item takes a token.
 use mathlib.Core.Path.{_≡_}
-use mathlib.Core.Bool.{Bool, true, false, _||_, _&&_}
+use mathlib.Core.Bool.{true, false, _&&_}
 use mathlib.Core.List.{List, [], _∷_, _++_}
 use mathlib.Core.Option.{Option, none, some}
 use Prim.Native.Nat.{ℕ, zero, suc, _≤_, _<_}
@@ -9,12 +9,14 @@ use lib.Dec.{ltb, leb}
 use lib.ListN.{length}
 use Rattle.meaning.specs.TestLaws.{on-cond}
 use Rattle.automaton.specs.Value.{printable}
-use Rattle.hoa_text.specs.Basics.{option, isSome}
-use Rattle.hoa_text.specs.Tokens.{Token, Stream, stands, over, broken}
-use Rattle.hoa_text.specs.Grammar.{numberOf, quotedOf, itemOf, isItem, isSign, next, rest, at, Result, gives, refuses, Parsed, due, onward, Turn, turn, size, repeat}
-use Rattle.hoa_text.specs.Header.{Items, Header, allBytes, among, once, statesGiven, statesItem, startGiven, startItem, nameGiven, naming, namesRead, namesGiven, namesItem, condition, departs, accepting, setsRead, setsGiven, setsItem, plain, skipped, small, opening, opened, itemRead}
+use Rattle.hoa_text.specs.Basics.{option}
+use Rattle.hoa_text.specs.Tokens.{Stream, stands, over, broken}
+use Rattle.hoa_text.specs.Grammar.{numberOf, quotedOf, itemOf, isItem, isSign, next, rest, at, Result, Parsed, due, onward, Turn, turn, size, repeat}
+use Rattle.hoa_text.specs.Header.{Items, Header, allBytes, among, once, statesGiven, statesItem, startGiven, startItem, nameGiven, naming, namesRead, namesGiven, namesItem, setsRead, setsGiven, setsItem, plain, skipped, small, opening, opened, itemRead}
+use Rattle.hoa_text.specs.Formulas.{acceptanceFormula}
 use Rattle.hoa_text.specs.Repetition.{Every, every-after, Fewer, Shrinks, repeat-turn}
-use Rattle.hoa_text.specs.Progress.{rest-size, next-size, Leaves, most-leaves, then-leaves, due-leaves, onward-behind}
+use Rattle.hoa_text.specs.Progress.{next-size, Leaves, most-leaves, then-leaves, due-leaves, onward-behind}
+use Rattle.hoa_text.specs.FormulaProgress.{acceptance-leaves}
 
 -- ---- the items
 
@@ -43,26 +45,11 @@ namesItem-leaves h s =
     (λ k u. on-cond (Leaves (suc (size u))) (leb k 4) _ _
     (λ e. then-leaves (suc (size u)) (naming k [] u) (namesRead h) (naming-leaves k [] u) (λ ws v. omega arith)) (λ e. tt))
 
-pub every-departs : (Q : ℕ × Stream → Type 0) (s : Stream) → Every Q (departs s)
-every-departs Q s = on-cond (Every Q) (next (λ t. true) s) _ _ (λ e. tt) (λ e. tt)
-
-accepting-leaves : (m : ℕ) (ps : List (Token → Bool)) (s : Stream) → Leaves (suc (size s)) (accepting m ps s)
-accepting-leaves m [] s =
-    on-cond (Leaves (suc (size s))) (next (λ t. isSome (itemOf t) || isSign "--BODY--" t) s) _ _
-    (λ e. omega arith) (λ e. every-departs (λ y. size (y .1) < suc (size s)) s)
-accepting-leaves m (p ∷ ps) s =
-    on-cond (Leaves (suc (size s))) (next p s) _ _
-    (λ e. fewer (accepting m ps (rest s)) (accepting-leaves m ps (rest s))) (λ e. every-departs (λ y. size (y .1) < suc (size s)) s)
-  where
-    fewer : (x : Parsed ℕ) → Leaves (suc (size (rest s))) x → Leaves (suc (size s)) x
-    fewer (gives y) h = omega (arith, rest-size s)
-    fewer (refuses r) h = tt
-
 setsItem-leaves : (h : Items) (s : Stream) → Leaves (size s) (setsItem h s)
 setsItem-leaves h s =
     then-leaves (size s) (due numberOf s) (setsGiven h (at s)) (due-leaves numberOf s)
     (λ m u. on-cond (Leaves (suc (size u))) (leb m 4) _ _
-    (λ e. then-leaves (suc (size u)) (accepting m (condition m) u) (setsRead h) (accepting-leaves m (condition m) u) (λ k v. omega arith)) (λ e. tt))
+    (λ e. then-leaves (suc (size u)) (acceptanceFormula m u) (setsRead h m) (most-leaves u (acceptanceFormula m u) (acceptance-leaves m u)) (λ f v. omega arith)) (λ e. tt))
 
 skipped-size : (s : Stream) → size (skipped s) ≤ size s
 skipped-size (stands o t s) =
@@ -87,7 +74,7 @@ item-shrinks h s =
     on-cond P (next (isItem "States") s) _ _ (λ e. item-fewer (h .states) (statesItem h) (statesItem-leaves h) s)
     (λ e. on-cond P (next (isItem "Start") s) _ _ (λ e. item-fewer (h .start) (startItem h) (startItem-leaves h) s)
     (λ e. on-cond P (next (isItem "AP") s) _ _ (λ e. item-fewer (h .names) (namesItem h) (namesItem-leaves h) s)
-    (λ e. on-cond P (next (isItem "Acceptance") s) _ _ (λ e. item-fewer (h .sets) (setsItem h) (setsItem-leaves h) s)
+    (λ e. on-cond P (next (isItem "Acceptance") s) _ _ (λ e. item-fewer (h .accepting) (setsItem h) (setsItem-leaves h) s)
     (λ e. on-cond P (next (λ t. option (itemOf t) false small) s) _ _ (other-fewer s)
     (λ e. on-cond P (next (isSign "--BODY--") s) _ _ (λ e. every-after (Fewer (size s)) (opening h (at s) (rest s)) opened (λ g u. tt)) (λ e. tt))))))
 

@@ -30,9 +30,10 @@ pub mod WrittenFormulas
 pub mod WrittenLabels
 pub mod WrittenMarks
 pub mod WrittenBody
-pub mod ConditionText
 pub mod WrittenAcceptance
 pub mod WrittenHeader
+pub mod Lengths
+pub mod ConditionLength
 pub mod WrittenLength
 pub mod ReadBack
 pub mod Examples

@@ -13,7 +13,6 @@ use Rattle.meaning.specs.CountingLaws.{each-length, each-at}
 use Rattle.automaton.specs.Names.{slot-length, slot-byte, printable-means}
 use Rattle.automaton.specs.Value.{printable, Valid, destination, markSet, nameLength, nameByte, name}
 use Rattle.automaton.specs.Rows.{rows-length, rows-at}
-use Rattle.automaton.specs.Acceptance.{every-set-is}
 use Rattle.hoa_text.specs.Basics.{option, isSome}
 use Rattle.hoa_text.specs.Header.{Header}
 use Rattle.hoa_text.specs.Body.{Edge, Table, letters}
@@ -87,7 +86,7 @@ module _ (h : Header) (t : Table) (hf : HeaderFits h) (tf : TableFits h t) (full
         start-lt = hf .start-lt;
         propositions-le = count;
         sets-le = hf .sets-le;
-        acceptance-is = every-set-is (hf .sets-le) refl;
+        own-sets = hf .own-sets;
         destination-lt = destination-lt;
         marks-lt = marks-lt;
         name-some = λ i hi. omega (arith, length-made h t i (omega arith), names .some-bytes i hi);

@@ -1,5 +1,5 @@
 -- WHAT IS WRITTEN IS READ BACK: reading the text of an automaton gives that automaton, the same value.
-use mathlib.Core.Path.{_≡_, refl, sym, ap, _∙_}
+use mathlib.Core.Path.{_≡_, refl, ap, _∙_}
 use mathlib.Core.Bool.{cond}
 use mathlib.Core.List.{[], _++_}
 use mathlib.Core.Option.{none, some}
@@ -14,7 +14,6 @@ use Rattle.meaning.specs.Counting.{each}
 use Rattle.meaning.specs.CountingLaws.{each-length, each-at}
 use Rattle.automaton.specs.declared.Automaton.{Automaton}
 use Rattle.refusals.specs.declared.Refusal.the-variants.{Size, Body, NoEdge}
-use Rattle.automaton.specs.Acceptance.{every-set-is}
 use Rattle.automaton.specs.Equality.{Same, equal-values}
 use Rattle.automaton.specs.Value.{Valid, destination, markSet, name}
 use Rattle.hoa_text.specs.Basics.{option, isSome}
@@ -68,7 +67,7 @@ module _ (a : Automaton) (v : Valid a) where
     start = refl;
     propositions = each-length (a .propositions) (name a);
     sets = refl;
-    acceptance = every-set-is (v .sets-le) refl ∙ sym (v .acceptance-is);
+    acceptance = refl;
     steps = λ q l hq hl.
         destination-made (headerOf a) full q l (omega (arith, v .states-le)) (omega (arith, few-letters))
         ∙ ap (λ x. option x 0 (λ e. e .destination)) (edge-full q l hq hl);

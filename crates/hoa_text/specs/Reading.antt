@@ -9,7 +9,7 @@ use lib.ListN.{length, getD}
 use Rattle.automaton.specs.declared.Automaton.{Automaton}
 use Rattle.refusals.specs.declared.Refusal.{Refusal}
 use Rattle.refusals.specs.declared.Refusal.the-variants.{Form, Size, Body, NoEdge}
-use Rattle.automaton.specs.Value.{table, rows, everySet}
+use Rattle.automaton.specs.Value.{table, rows}
 use Rattle.hoa_text.specs.Basics.{option, isSome, first}
 use Rattle.hoa_text.specs.Tokens.{Stream, stands, over, broken, tokens}
 use Rattle.hoa_text.specs.Grammar.{Result, gives, refuses, then}
@@ -25,7 +25,7 @@ made h t = record {
   start = h .start;
   propositions = length (h .names);
   sets = h .sets;
-  acceptance = everySet (h .sets);
+  acceptance = h .acceptance;
   lengths = table 4 (λ i. length (getD (h .names) i []));
   names = rows 4 (λ i j. getD (getD (h .names) i []) j 0);
   destinations = rows 16 (λ q l. option (t .edge q l) 0 (λ e. e .destination));

@@ -1,7 +1,8 @@
--- DEFINITIONS, 8 of 8: the text that is written of an automaton. Sentences in quotes are document 01's, section "HOA as read", "Written".
+-- DEFINITIONS, 8 of 8: the text that is written of an automaton. Sentences in quotes are document 01's, section "HOA as read", "Written"; those of the
+-- condition are document 02's too.
 use mathlib.Core.Bool.{cond}
 use mathlib.Core.List.{List, [], _∷_, _++_}
-use Prim.Native.Nat.{ℕ, zero, suc, _+_, _/_, _%_}
+use Prim.Native.Nat.{ℕ, zero, suc, _+_, _-_, _/_, _%_, _^_}
 use Prim.Native.String.{String}
 use lib.Dec.{ltb, eqb}
 use Rattle.meaning.specs.BitSet.{has}
@@ -48,7 +49,7 @@ namesLine a = line (bytes "AP: " ++ (decimal (a .propositions) ++ each (a .propo
 abbrev pub namesPart : Automaton → List ℕ
 namesPart a = cond (eqb (a .propositions) 0) [] (namesLine a)
 
--- "but none inside the condition", `Acceptance: 2 Inf(0)&Inf(1)`; with 0 sets `0 t`
+-- "but none inside the condition", `Acceptance: 2 Inf(0)&Inf(1)`; Inf of all sets, with 0 sets `0 t`
 abbrev pub infOf : ℕ → List ℕ
 infOf i = bytes "Inf(" ++ (decimal i ++ bytes ")")
 
@@ -56,8 +57,31 @@ abbrev pub conditionOf : ℕ → List ℕ
 conditionOf zero = bytes "t"
 conditionOf (suc m) = separated "&" (each (suc m) (λ i. infOf i ∷ []))
 
+-- "by Inf or Fin": the set i, as the set of marks x has it or has it not
+abbrev pub finOf : ℕ → List ℕ
+finOf i = bytes "Fin(" ++ (decimal i ++ bytes ")")
+
+abbrev pub setText : ℕ → ℕ → List ℕ
+setText x i = cond (has x i) (infOf i) (finOf i)
+
+-- "each naming every set, ascending, by Inf or Fin joined by &": the set of marks x, of m sets
+abbrev pub marksText : ℕ → ℕ → List ℕ
+marksText m x = separated "&" (each m (λ i. setText x i ∷ []))
+
+-- "the accepted sets of marks ascending": those below n that the acceptance a has
+abbrev pub accepted : ℕ → ℕ → ℕ → List (List ℕ)
+accepted m a n = each n (λ x. cond (has a x) (marksText m x ∷ []) [])
+
+-- "Written out, Inf of all sets keeps its form, otherwise all-true is t, all-false is f, else the accepted sets of marks ascending, joined by |". Bit x of
+-- the acceptance a is the yes or no for the set of marks x, of m sets; Inf of all sets has a yes for all m alone
+abbrev pub conditionText : ℕ → ℕ → List ℕ
+conditionText m a =
+    cond (eqb a (2 ^ (2 ^ m - 1))) (conditionOf m)
+    (cond (eqb a (2 ^ (2 ^ m) - 1)) (bytes "t")
+    (cond (eqb a 0) (bytes "f") (separated "|" (accepted m a (2 ^ m)))))
+
 abbrev pub acceptanceLine : Automaton → List ℕ
-acceptanceLine a = line (bytes "Acceptance: " ++ (decimal (a .sets) ++ (bytes " " ++ conditionOf (a .sets))))
+acceptanceLine a = line (bytes "Acceptance: " ++ (decimal (a .sets) ++ (bytes " " ++ conditionText (a .sets) (a .acceptance))))
 
 -- ---- "then per state ascending `State: q` and one line per letter ascending"
 

@@ -21,8 +21,7 @@ use Rattle.hoa_text.specs.Grammar.{isSign, next, gives, refuses, Parsed,
 use Rattle.hoa_text.specs.Formulas.{Formula, sets, proposition, top, bottom, negation, disjunction, holds, declared, closed, negated, operation, conjunctions, disjunctions, unary, deepest, acceptanceFormula}
 use Rattle.hoa_text.specs.Repetition.{repeat-again}
 use Rattle.hoa_text.specs.FormulaProgress.{or-shrinks}
-use Rattle.hoa_text.specs.Written.{decimal, separated, infOf, conditionOf, bodyLine}
-use Rattle.hoa_text.specs.ConditionText.{finOf, setText, marksText, accepted, conditionText}
+use Rattle.hoa_text.specs.Written.{decimal, separated, infOf, conditionOf, finOf, setText, marksText, accepted, conditionText, bodyLine}
 use Rattle.hoa_text.specs.WrittenTokens.{SomeOffset, Reads, first-byte, number-read}
 use Rattle.hoa_text.specs.WrittenFormulas.{separated-more, literalFormula, formulaOf, holds-formula, sum-ends, alone, product-read, product-alone}
 

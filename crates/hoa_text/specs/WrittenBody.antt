@@ -54,7 +54,7 @@ end-apart = record { no-brace = λ i. refl; no-quote = λ i. refl }
 -- ---- the header and the table of an automaton
 
 abbrev pub headerOf : Automaton → Header
-headerOf a = record { states = a .states; start = a .start; names = each (a .propositions) (λ i. name a i ∷ []); sets = a .sets }
+headerOf a = record { states = a .states; start = a .start; names = each (a .propositions) (λ i. name a i ∷ []); sets = a .sets; acceptance = a .acceptance }
 
 -- its letters, as the reader counts them
 abbrev lettersOf : Automaton → ℕ

@@ -35,7 +35,7 @@ separated-more w [] u h = absurd (not-suc-le-zero h)
 separated-more w (v ∷ us) u h = ap (λ x. v ++ x) (followed-more w us u) ∙ sym (append-assoc v (followed w us) (bytes w ++ u))
 
 -- f 0, f 1, .., with one more behind them
-pub one-more-separated : (w : String) (f : ℕ → List ℕ) (j : ℕ) (s : List ℕ)
+one-more-separated : (w : String) (f : ℕ → List ℕ) (j : ℕ) (s : List ℕ)
     → separated w (each (suc (suc j)) (λ i. f i ∷ [])) ++ s ≡ separated w (each (suc j) (λ i. f i ∷ [])) ++ (bytes w ++ (f (suc j) ++ s))
 one-more-separated w f j s =
     let us = each (suc j) (λ i. f i ∷ []) in

@@ -1,35 +1,38 @@
 -- The header that is written of an automaton is read back.
 use mathlib.Core.Path.{_≡_, refl, sym, ap, _∙_, subst}
-use mathlib.Core.Bool.{Bool, true, false, cond}
-use mathlib.Core.List.{List, [], _∷_, _++_, append-assoc, append-nil}
+use mathlib.Core.Bool.{true, false, cond}
+use mathlib.Core.List.{List, [], _∷_, _++_, append-assoc}
 use mathlib.Core.Option.{Option, none, some}
-use Prim.Native.Nat.{ℕ, zero, suc, _+_, _≤_, _<_}
+use Prim.Native.Nat.{ℕ, zero, suc, _+_, _^_, _≤_, _<_}
 use native.Mathlib.Decide.{ℕ-discrete}
 use native.Mathlib.Omega.{arith}
 use borrow.Author.Tests.{lt-ltb, le-leb, eq-eqb, ne-eqb}
 use lib.Dec.{ltb, leb}
 use lib.ListN.{length}
+use Rattle.meaning.specs.BitSet.{has}
+use Rattle.meaning.specs.MarkSets.{set-of-same, set-of-has}
 use Rattle.meaning.specs.TestLaws.{and-true}
 use Rattle.meaning.specs.Counting.{each}
 use Rattle.meaning.specs.CountingLaws.{each-length, each-at}
 use Rattle.automaton.specs.declared.Automaton.{Automaton}
-use Rattle.refusals.specs.declared.Refusal.the-variants.{Size, Item, Undeclared}
+use Rattle.refusals.specs.declared.Refusal.the-variants.{Size, Undeclared}
 use Rattle.automaton.specs.Value.{Valid, name}
 use Rattle.automaton.specs.Bytes.{bytes}
 use Rattle.hoa_text.specs.Basics.{option}
-use Rattle.hoa_text.specs.Tokens.{lex, Token}
-use Rattle.hoa_text.specs.Grammar.{at, Result, gives, refuses, then, again, done, repeat, onward, isSign, isNumber}
-use Rattle.hoa_text.specs.Header.{Items, Header, among, statesGiven, startGiven, nameGiven, naming, namesRead, namesGiven, noItems, opened, itemRead, header, inf, infs, condition, accepting, setsRead, setsGiven}
-use Rattle.hoa_text.specs.Written.{decimal, line, hoaLine, statesLine, startLine, quotedName, namesLine, namesPart, conditionOf, acceptanceLine, bodyLine, infOf}
+use Rattle.hoa_text.specs.Tokens.{lex}
+use Rattle.hoa_text.specs.Grammar.{at, Result, gives, refuses, then, again, done, repeat, onward}
+use Rattle.hoa_text.specs.Formulas.{holds, acceptanceFormula}
+use Rattle.hoa_text.specs.Header.{Accepting, Items, Header, among, statesGiven, startGiven, nameGiven, naming, namesRead, namesGiven, setsRead, setsGiven, noItems, opened, itemRead, header}
+use Rattle.hoa_text.specs.Written.{decimal, hoaLine, statesLine, startLine, quotedName, namesLine, namesPart, conditionText, acceptanceLine, bodyLine}
 use Rattle.hoa_text.specs.Repetition.{repeat-again, repeat-done}
 use Rattle.hoa_text.specs.HeaderProgress.{item-shrinks}
 use Rattle.hoa_text.specs.Names.{not-among, name-length, name-printable}
-use Rattle.hoa_text.specs.WrittenTokens.{SomeOffset, Reads, NoDigit, first-byte, number-read, due-number, quoted-read}
-use Rattle.hoa_text.specs.WrittenFormulas.{one-more-separated}
+use Rattle.hoa_text.specs.WrittenTokens.{SomeOffset, Reads, NoDigit, first-byte, due-number, quoted-read}
+use Rattle.hoa_text.specs.WrittenAcceptance.{body-apart, condition-read-back}
 use Rattle.hoa_text.specs.WrittenBody.{headerOf}
 
-abbrev after : Option ℕ → Option (ℕ × ℕ) → Option (List (List ℕ)) → Option ℕ → Items
-after w x y z = record { states = w; start = x; names = y; sets = z }
+abbrev after : Option ℕ → Option (ℕ × ℕ) → Option (List (List ℕ)) → Option Accepting → Items
+after w x y z = record { states = w; start = x; names = y; accepting = z }
 
 -- ---- names
 
@@ -167,83 +170,41 @@ module _ (a : Automaton) (v : Valid a) where
 
 -- ---- acceptance, in front of the body
 
-abbrev acceptance : ℕ → List ℕ
-acceptance m = line (bytes "Acceptance: " ++ (decimal m ++ (bytes " " ++ conditionOf m)))
+abbrev acceptingOf : Automaton → Accepting
+acceptingOf a = record { sets = a .sets; acceptance = a .acceptance }
 
--- one set of the condition
-inf-read : (m i : ℕ) → i < 100 → (ps : List (Token → Bool)) (s : List ℕ) → Reads (accepting m (inf i ps)) (infOf i ++ s) (accepting m ps) s
-inf-read m i h ps s o =
-    let e : infOf i ++ s ≡ bytes "Inf(" ++ (decimal i ++ (41 ∷ s)) = simp append-assoc in
-    let b = o + 1 + 1 + 1 + 1 in
-    let k = number-read i h (41 ∷ s) (first-byte 41 s refl) b in
-    record {
-      offset = k .offset + 1;
-      is =
-          ap (λ u. accepting m (inf i ps) (lex u 0 o)) e
-          ∙ ap (accepting m (isNumber i ∷ isSign ")" ∷ ps)) (k .is)
-          ∙ ap (λ t. cond t (accepting m ps (lex s 0 (k .offset + 1))) (refuses (Item b))) (eq-eqb i i refl);
-    }
-
--- the tests of one set more stand behind the others
-infs-more : (n i : ℕ) (ps : List (Token → Bool)) → infs (suc n) i ++ ps ≡ infs n i ++ (isSign "&" ∷ inf (i + n) ps)
-infs-more zero i ps = let e : i ≡ i + 0 = omega arith in ap (λ j. isSign "&" ∷ inf j ps) e
-infs-more (suc n) i ps =
-    let e : i + 1 + n ≡ i + suc n = omega arith in
-    ap (λ qs. isSign "&" ∷ inf i qs) (infs-more n (i + 1) ps ∙ ap (λ j. infs n (i + 1) ++ (isSign "&" ∷ inf j ps)) e)
-
--- the sets up to n, by the number of sets
-infs-read : (m n : ℕ) → n < 100 → (ps : List (Token → Bool)) (s : List ℕ) → Reads (accepting m (condition (suc n) ++ ps)) (conditionOf (suc n) ++ s) (accepting m ps) s
-infs-read m zero h ps s o =
-    let k = inf-read m 0 h ps s o in
-    record { offset = k .offset; is = ap (λ u. accepting m (inf 0 ps) (lex (u ++ s) 0 o)) (append-nil (infOf 0)) ∙ k .is }
-infs-read m (suc n) h ps s o =
-    let e : 1 + n ≡ suc n = omega arith in
-    let qs : List (Token → Bool) = isSign "&" ∷ inf (suc n) ps in
-    let u : List ℕ = bytes "&" ++ (infOf (suc n) ++ s) in
-    let ih = infs-read m n (omega arith) qs u o in
-    let k = inf-read m (suc n) h ps s (ih .offset + 1) in
-    record {
-      offset = k .offset;
-      is =
-          ap (λ qs. accepting m (inf 0 qs) (lex (conditionOf (suc (suc n)) ++ s) 0 o)) (infs-more n 1 ps ∙ ap (λ j. infs n 1 ++ (isSign "&" ∷ inf j ps)) e)
-          ∙ ap (λ v. accepting m (condition (suc n) ++ qs) (lex v 0 o)) (one-more-separated "&" infOf n s)
-          ∙ ih .is ∙ k .is;
-    }
-
--- "Acceptance is `0 t`, or the count and Inf(0)&Inf(1)&..", in front of an item name or the body
-condition-read : (m n : ℕ) → n ≤ 100 → (r : List ℕ) → Reads (accepting m (condition n)) (conditionOf n ++ (10 ∷ (bodyLine ++ r))) (λ u. gives (m, u)) (bodyLine ++ r)
-condition-read m zero h r o = record { offset = o + 1 + 1; is = refl }
-condition-read m (suc n) h r o =
-    let k = infs-read m n (omega arith) [] (10 ∷ (bodyLine ++ r)) o in
-    record { offset = k .offset + 1; is = ap (λ ps. accepting m ps (lex (conditionOf (suc n) ++ (10 ∷ (bodyLine ++ r))) 0 o)) (sym (append-nil (condition (suc n)))) ∙ k .is }
-
-acceptance-read : (m : ℕ) → m ≤ 4 → (w : Option ℕ) (x : Option (ℕ × ℕ)) (y : Option (List (List ℕ))) (r : List ℕ)
-    → Reads (itemRead (after w x y none)) (acceptance m ++ (bodyLine ++ r)) (λ u. gives (again (after w x y (some m)) u)) (bodyLine ++ r)
+acceptance-read : (a : Automaton) → Valid a → (w : Option ℕ) (x : Option (ℕ × ℕ)) (y : Option (List (List ℕ))) (r : List ℕ)
+    → Reads (itemRead (after w x y none)) (acceptanceLine a ++ (bodyLine ++ r)) (λ u. gives (again (after w x y (some (acceptingOf a))) u)) (bodyLine ++ r)
 unfolding itemRead
-acceptance-read m h w x y r o =
+acceptance-read a v w x y r o =
+    let m = a .sets in
     let i = after w x y none in
-    let s = conditionOf m ++ (10 ∷ (bodyLine ++ r)) in
-    let e : acceptance m ++ (bodyLine ++ r) ≡ bytes "Acceptance: " ++ (decimal m ++ (32 ∷ s)) = simp append-assoc in
+    let t : List ℕ = 10 ∷ (bodyLine ++ r) in
+    let s = conditionText m (a .acceptance) ++ t in
+    let e : acceptanceLine a ++ (bodyLine ++ r) ≡ bytes "Acceptance: " ++ (decimal m ++ (32 ∷ s)) = simp append-assoc in
     let b = o + 1 + 1 + 1 + 1 + 1 + 1 + 1 + 1 + 1 + 1 + 1 + 1 in
     let o₁ = at (lex (decimal m ++ (32 ∷ s)) 0 b) in
-    let k = due-number m (omega arith) (32 ∷ s) (first-byte 32 s refl) b in
-    let g = condition-read m m (omega arith) r (k .offset + 1) in
+    let k = due-number m (omega (arith, v .sets-le)) (32 ∷ s) (first-byte 32 s refl) b in
+    let g = condition-read-back m (a .acceptance) (v .sets-le) (v .own-sets) t (body-apart r) in
+    let c = g .is (k .offset + 1) in
     record {
-      offset = g .offset;
+      offset = c .offset + 1;
       is =
           ap (λ u. itemRead i (lex u 0 o)) e
           ∙ ap (λ t. onward (then t (setsGiven i o₁))) (k .is)
-          ∙ ap (λ t. onward (cond t (then (accepting m (condition m) (lex s 0 (k .offset + 1))) (setsRead i)) (refuses (Size o₁)))) (le-leb m 4 h)
-          ∙ ap (λ t. onward (then t (setsRead i))) (g .is);
+          ∙ ap (λ t. onward (cond t (then (acceptanceFormula m (lex s 0 (k .offset + 1))) (setsRead i m)) (refuses (Size o₁)))) (le-leb m 4 (v .sets-le))
+          ∙ ap (λ t. onward (then t (setsRead i m))) (c .is)
+          ∙ ap (λ z. gives (again (after w x y (some (record { sets = m; acceptance = z }))) (lex (bodyLine ++ r) 0 (c .offset + 1))))
+          (set-of-same (2 ^ m) (holds (g .formula)) (has (a .acceptance)) (g .says) ∙ set-of-has (2 ^ m) (a .acceptance) (v .own-sets));
     }
 
 -- ---- the header
 
 opening-read : (a : Automaton) → Valid a → (p : ℕ) (y : Option (List (List ℕ))) → option y [] (λ ws. ws) ≡ headerOf a .names → (r : List ℕ)
-    → Reads (itemRead (after (some (a .states)) (some (a .start, p)) y (some (a .sets)))) (bodyLine ++ r) (λ u. gives (done (headerOf a, u))) r
+    → Reads (itemRead (after (some (a .states)) (some (a .start, p)) y (some (acceptingOf a)))) (bodyLine ++ r) (λ u. gives (done (headerOf a, u))) r
 unfolding itemRead
 opening-read a v p y e r o =
-    let g : List (List ℕ) → Header = λ ws. record { states = a .states; start = a .start; names = ws; sets = a .sets } in
+    let g : List (List ℕ) → Header = λ ws. record { states = a .states; start = a .start; names = ws; sets = a .sets; acceptance = a .acceptance } in
     let i = o + 1 + 1 + 1 + 1 + 1 + 1 + 1 + 1 + 1 in
     record {
       offset = i;
@@ -264,7 +225,7 @@ header-read a v r =
     let k₂ = start-read a v r₃ (k₁ .offset) in
     let q : Option (ℕ × ℕ) = some (a .start, k₂ .number-at) in
     let k₃ = names-read a v n q r₄ (k₂ .offset) in
-    let k₄ = acceptance-read (a .sets) (v .sets-le) n q (k₃ .given) r (k₃ .offset) in
+    let k₄ = acceptance-read a v n q (k₃ .given) r (k₃ .offset) in
     let k₅ = opening-read a v (k₂ .number-at) (k₃ .given) (k₃ .are) r (k₄ .offset) in
     record {
       offset = k₅ .offset;
@@ -273,5 +234,5 @@ header-read a v r =
           ∙ repeat-again itemRead item-shrinks (after n none none none) (lex r₂ 0 (k₁ .offset)) (k₂ .is)
           ∙ k₃ .is
           ∙ repeat-again itemRead item-shrinks (after n q (k₃ .given) none) (lex r₄ 0 (k₃ .offset)) (k₄ .is)
-          ∙ repeat-done itemRead item-shrinks (after n q (k₃ .given) (some (a .sets))) (lex r₅ 0 (k₄ .offset)) (k₅ .is);
+          ∙ repeat-done itemRead item-shrinks (after n q (k₃ .given) (some (acceptingOf a))) (lex r₅ 0 (k₄ .offset)) (k₅ .is);
     }

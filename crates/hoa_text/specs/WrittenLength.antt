@@ -1,62 +1,22 @@
 -- The text that is written of an automaton has at most 8,192 bytes.
-use mathlib.Core.Path.{_≡_}
 use mathlib.Core.Bool.{Bool, true, false, cond}
 use mathlib.Core.List.{List, [], _∷_, _++_}
 use Prim.Native.Nat.{ℕ, zero, suc, _+_, _*_, _≤_, _<_}
-use Prim.Native.String.{String}
 use native.Mathlib.Omega.{arith}
 use lib.ListN.{length, length-append}
-use lib.Dec.{ltb, eqb}
-use borrow.Author.Tests.{lt-ltb}
+use lib.Dec.{eqb}
 use Rattle.meaning.specs.BitSet.{has}
 use Rattle.meaning.specs.Counting.{each}
 use Rattle.automaton.specs.declared.Automaton.{Automaton}
 use Rattle.automaton.specs.Value.{Valid, letters, destination, markSet, name}
 use Rattle.automaton.specs.Letters.{letters-le}
 use Rattle.automaton.specs.Bytes.{bytes}
-use Rattle.hoa_text.specs.Written.{decimal, followed, separated, line, statesLine, startLine, quotedName, namesLine, namesPart, infOf, conditionOf, acceptanceLine, bodyLine, stateLine, literalOf, labelOf, members, marksOf, edgeLine, stateLines, endLine, text}
+use Rattle.hoa_text.specs.Written.{decimal, separated, line, statesLine, startLine, quotedName, namesLine, namesPart, conditionText, acceptanceLine, bodyLine, stateLine, literalOf, labelOf, members, marksOf, edgeLine, stateLines, endLine, text}
 use Rattle.hoa_text.specs.Names.{name-length}
+use Rattle.hoa_text.specs.Lengths.{cond-le, each-le, decimal-le, digit-le, total, total-each, separated-le}
+use Rattle.hoa_text.specs.ConditionLength.{condition-length}
 
--- ---- pieces
-
-cond-le : (b : Bool) (x y : List ℕ) (c : ℕ) → length x ≤ c → length y ≤ c → length (cond b x y) ≤ c
-cond-le true x y c h g = h
-cond-le false x y c h g = g
-
-each-le : (n c : ℕ) (f : ℕ → List ℕ) → ((i : ℕ) → i < n → length (f i) ≤ c) → length (each n f) ≤ c * n
-each-le zero c f h = omega arith
-each-le (suc n) c f h = omega (arith, length-append (each n f) (f n), each-le n c f (λ i g. h i (omega arith)), h n (omega arith))
-
-decimal-le : (n : ℕ) → length (decimal n) ≤ 2
-decimal-le n = cond-le (ltb n 10) _ _ 2 (omega arith) (omega arith)
-
-digit-le : (n : ℕ) → n < 10 → length (decimal n) ≤ 1
-digit-le n h = rw (lt-ltb n 10 h) (omega arith)
-
--- the lengths together, and c more for each text
-total : ℕ → List (List ℕ) → ℕ
-total c [] = 0
-total c (u ∷ us) = length u + c + total c us
-
-total-append : (c : ℕ) (us vs : List (List ℕ)) → total c (us ++ vs) ≡ total c us + total c vs
-unfolding total
-total-append c [] vs = omega arith
-total-append c (u ∷ us) vs = omega (arith, total-append c us vs)
-
-total-each : (c d n : ℕ) (f : ℕ → List (List ℕ)) → ((i : ℕ) → i < n → total c (f i) ≤ d) → total c (each n f) ≤ d * n
-unfolding total
-total-each c d zero f h = omega arith
-total-each c d (suc n) f h = omega (arith, total-append c (each n f) (f n), total-each c d n f (λ i g. h i (omega arith)), h n (omega arith))
-
-followed-le : (w : String) (us : List (List ℕ)) → length (followed w us) ≤ total (length (bytes w)) us
-unfolding total
-followed-le w [] = omega arith
-followed-le w (u ∷ us) = omega (arith, length-append (bytes w) (u ++ followed w us), length-append u (followed w us), followed-le w us)
-
-separated-le : (w : String) (us : List (List ℕ)) → length (separated w us) ≤ total (length (bytes w)) us
-unfolding total
-separated-le w [] = omega arith
-separated-le w (u ∷ us) = omega (arith, length-append u (followed w us), followed-le w us)
+-- ---- labels and marks
 
 literal-le : (l i : ℕ) → i < 10 → length (literalOf l i) ≤ 2
 literal-le l i h = cond-le (has l i) _ _ 2 (omega (arith, digit-le i h)) (omega (arith, digit-le i h))
@@ -83,13 +43,6 @@ marks-le n m h =
 
     all-le : total 1 us ≤ 2 * n
     all-le = total-each 1 2 n (λ i. cond (has m i) (decimal i ∷ []) []) (λ i g. one i (has m i) (omega arith))
-
-condition-le : (m : ℕ) → m ≤ 4 → length (conditionOf m) ≤ 32
-unfolding total
-condition-le zero h = omega arith
-condition-le (suc m) h =
-    let infs : ℕ → List (List ℕ) = λ i. infOf i ∷ [] in
-    omega (arith, separated-le "&" (each (suc m) infs), total-each 1 8 (suc m) infs (λ i g. omega (arith, length-append (decimal i) (bytes ")"), decimal-le i)))
 
 -- ---- lines
 
@@ -128,11 +81,11 @@ module _ (a : Automaton) (v : Valid a) where
       cond-le (eqb k 0) [] (namesLine a) 83 (omega arith) (line-le (bytes "AP: " ++ (decimal k ++ ns)) 82
       (omega (arith, length-append (decimal k) ns, decimal-le k, each-le k 19 (quotedName a) quoted-le, v .propositions-le)))
 
-  acceptance-le : length (acceptanceLine a) ≤ 48
+  acceptance-le : length (acceptanceLine a) ≤ 463
   acceptance-le =
-      let c = bytes " " ++ conditionOf (a .sets) in
-      line-le (bytes "Acceptance: " ++ (decimal (a .sets) ++ c)) 47
-      (omega (arith, length-append (decimal (a .sets)) c, decimal-le (a .sets), condition-le (a .sets) (v .sets-le)))
+      let c = bytes " " ++ conditionText (a .sets) (a .acceptance) in
+      line-le (bytes "Acceptance: " ++ (decimal (a .sets) ++ c)) 462
+      (omega (arith, length-append (decimal (a .sets)) c, decimal-le (a .sets), condition-length (a .sets) (a .acceptance) (v .sets-le)))
 
   -- ---- the text
 

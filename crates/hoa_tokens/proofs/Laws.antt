@@ -13,9 +13,9 @@ use lib.ListN.{length, getD, drop, length-drop, drop-of-length-le, List·getD-eq
 use lib.Seq.{slice, slice-empty, drop-cons}
 use Rattle.meaning.specs.TestLaws.{and-right, or-cases}
 use Rattle.automaton.specs.Bytes.{bytes}
-use Rattle.hoa_text.specs.Basics.{begins}
+use Rattle.hoa_text.specs.Basics.{isSome, begins}
 use Rattle.hoa_text.specs.Tokens.{blank, digit, opensWord, inWord, sign, token, leadingZero, value, piece, left}
-use Rattle.hoa_text.specs.Grammar.{at}
+use Rattle.hoa_text.specs.Grammar.{numberOf, next, at}
 use Rattle.hoa_text.specs.Offsets.{inside, left-over, left-blank}
 use Rattle.hoa_text.specs.Numbers.{value-next, leads-zero, one-digit, digit-from}
 use Rattle.hoa_text.specs.RunOffsets.{Run, word-from, left-number, left-word, left-item, left-alias, left-at}
@@ -23,7 +23,7 @@ use Rattle.hoa_text.specs.QuotedOffsets.{InQuotes, quotes-carried, quotes-more,
 use Rattle.hoa_text.specs.SignOffsets.{left-mark, left-body, left-end, left-abort, left-dash, opensSign, OpensNone, left-none}
 use Rattle.hoa_tokens.specs.declared.Token.{Token}
 use Rattle.hoa_tokens.specs.declared.Token.the-variants.{Word, Item, Number, Quoted, Sign, Body, End, Abort, Unread, Over, Broken}
-use Rattle.hoa_tokens.specs.Answers.{Within, Longest, Ends, Spelled, Lies, Reads, Skipped}
+use Rattle.hoa_tokens.specs.Answers.{Within, Longest, Ends, Spelled, Lies, Reads, NumberHere, Skipped}
 use Rattle.hoa_tokens.specs.Kinds.{Digits, Other}
 
 pub past : (s : List ℕ) (i : ℕ) → length s ≤ i → 0 ≡ getD s i 0
@@ -115,6 +115,32 @@ module _ (s : List ℕ) (i v e : ℕ) (h : digit (getD s i 0) ≡ true) (d : Dig
       go : Dec (i + 1 < e) → Reads s i (Number i v e)
       go (yes l) = is-number (leads-zero s i e l (d .run .to) ∙ ne-eqb (getD s i 0) 48 z)
       go (no l) = zero-alone (omega arith)
+
+-- ---- a number right there, or none
+
+module _ (s : List ℕ) (i : ℕ) where
+  none-is : (v : ℕ) → ((w f : ℕ) → ¬ Reads s i (Number i w f)) → NumberHere s i v i
+  none-is v n = record { is = λ m. absurd (m refl); none = λ e. n }
+
+  pub past-here : (v : ℕ) → length s ≤ i → NumberHere s i v i
+  past-here v l = none-is v (λ w f h. omega (arith, h .lies .longer, h .lies .to))
+
+module _ (s : List ℕ) (i v e : ℕ) (d : Digits s i v e) where
+  opens-here : e ≢ i → digit (getD s i 0) ≡ true
+  opens-here n = d .run .within i (omega arith) (omega (arith, d .run .from))
+
+  no-digit-here : e ≡ i → (w f : ℕ) → ¬ Reads s i (Number i w f)
+  no-digit-here m w f h = true≢false (sym (h .lies .within i (omega arith) (h .lies .longer)) ∙ subst (λ n. digit (getD s n 0) ≡ false) m (d .run .ends))
+
+  pub led-here : getD s i 0 ≡ 48 → i + 1 < e → NumberHere s i 0 i
+  led-here z l =
+      none-is s i 0 (λ w f h. false≢true (ap (next (λ t. isSome (numberOf t))) (sym (zero-leads s i v e (opens-here (λ m. absurd (omega arith))) d z l .is) ∙ h .is)))
+
+  pub zero-here : e ≤ i + 1 → NumberHere s i v e
+  zero-here l = record { is = λ n. zero-alone s i v e (opens-here n) d l; none = no-digit-here }
+
+  pub number-here : getD s i 0 ≢ 48 → NumberHere s i v e
+  number-here z = record { is = λ n. no-zero s i v e (opens-here n) d z; none = no-digit-here }
 
 -- ---- words
 

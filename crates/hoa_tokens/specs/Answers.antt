@@ -1,7 +1,7 @@
 -- DEFINITIONS: what an answer of `next_token` says (`Reads`): the tokens that are left in the text, and where the answered one stands and ends. What
--- `first_byte` (`Skipped`) says.
+-- `first_byte` (`Skipped`) and `number_here` (`NumberHere`) say.
 use mathlib.Core.Path.{_≡_}
-use mathlib.Core.Logic.{_⊎_}
+use mathlib.Core.Logic.{_≢_, _⊎_}
 use mathlib.Core.Bool.{Bool, true, false}
 use mathlib.Core.List.{List, [], _∷_}
 use Prim.Native.Char.{code}
@@ -82,6 +82,11 @@ Lies s i (Broken o r) = i ≤ o
 pub record Reads (s : List ℕ) (i : ℕ) (t : Token) : Type 0 where
   pub is : left s i ≡ stream s t
   pub lies : Lies s i t
+
+-- the number v stands right at i and ends at e; where e is i, none stands there
+pub record NumberHere (s : List ℕ) (i v e : ℕ) : Type 0 where
+  pub is : e ≢ i → Reads s i (Number i v e)
+  pub none : e ≡ i → (w f : ℕ) → ¬ Reads s i (Number i w f)
 
 -- ---- blanks
 

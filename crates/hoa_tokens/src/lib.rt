@@ -11,12 +11,13 @@ use bytes::opens_word;
 use bytes::skip_blanks;
 use names::alias;
 use names::name;
+use numbers::digits;
 use numbers::number;
 use quoted::quoted;
 use signs::body_word;
 ghost use mathlib.Core.Path.{_≡_};
 ghost use lib.ListN.{getD};
-ghost use Rattle.hoa_tokens.specs.Answers.{Reads, Skipped};
+ghost use Rattle.hoa_tokens.specs.Answers.{Reads, NumberHere, Skipped};
 ghost use Rattle.hoa_tokens.specs.Kinds.{Other};
 
 // What stands first at or after an offset. The first number of each is the token's offset.
@@ -75,6 +76,30 @@ fn other(text: &[u8], start: usize, byte: u8) -> Token
         return Token::Sign(start, byte);
     }
     Token::Broken(start, start)
+}
+
+// The value of digits, up to 255, and their end.
+pub struct DigitRun {
+    pub value: usize,
+    pub end: usize,
+}
+
+// The number that begins right at an offset, and its end: the offset itself where none does, or where a 0 leads more digits.
+pub fn number_here(text: &[u8], at: usize) -> DigitRun
+    ensures { λ r. ⌜ NumberHere (now (text .entry)) at (r .value) (r .end) ⌝ }
+{
+    if text.len() <= at {
+        return DigitRun { value: 0, end: at };
+    }
+    let run = digits(text, at);
+    let value = run.value;
+    let end = run.end;
+    if text[at] == b'0' {
+        if at + 1 < end {
+            return DigitRun { value: 0, end: at };
+        }
+    }
+    DigitRun { value, end }
 }
 
 // A byte of the text, and its offset.

@@ -1,4 +1,5 @@
 // Numbers.
+use crate::DigitRun;
 use crate::Token;
 use crate::bytes::is_digit;
 ghost use mathlib.Core.Path.{_≡_};
@@ -26,13 +27,8 @@ pub fn number(text: &[u8], start: usize) -> Token
 // Numbers have any length, and saturate here: every limit lies below it.
 const LARGEST: usize = 255;
 
-struct DigitRun {
-    value: usize,
-    end: usize,
-}
-
 // The run of digits at `start`: its value, `LARGEST` where it is more, and its end.
-fn digits(text: &[u8], start: usize) -> DigitRun
+pub fn digits(text: &[u8], start: usize) -> DigitRun
     requires { ⌜ start ≤ length (now text) ⌝ }
     ensures { λ r. ⌜ Digits (now (text .entry)) start (r .value) (r .end) ⌝ }
 {

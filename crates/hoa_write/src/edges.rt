@@ -1,5 +1,6 @@
 // The body's lines: a state's, and its edges', with label, destination and marks.
 use crate::lines;
+use crate::parts::byte_between;
 use crate::parts::byte_if;
 use crate::parts::number;
 use automaton::Automaton;
@@ -7,9 +8,8 @@ use bits::powers::power_of_two;
 use bits::sets::has;
 use pieces::byte;
 use pieces::word;
-ghost use mathlib.Core.Path.{_≡_};
 ghost use mathlib.Core.List.{_++_};
-ghost use Prim.Native.Nat.{_+_, _%_, _^_, _≤_, _<_};
+ghost use Prim.Native.Nat.{_+_, _≤_, _<_};
 ghost use lib.ListN.{length};
 ghost use Rattle.meaning.specs.Counting.{each};
 ghost use Rattle.automaton.specs.Value.{Valid, letters};
@@ -132,15 +132,6 @@ fn member(m: u16, i: usize, out: &mut [u8], at: usize) -> usize
     if !has(m, i) {
         return at;
     }
-    let lower = below(m, i);
-    let next = byte_if(lower > 0, b' ', out, at);
+    let next = byte_between(m, i, b' ', out, at);
     number(i, out, next)
-}
-
-// The members of m below i.
-fn below(m: u16, i: usize) -> usize
-    requires { ⌜ i < 4 ⌝ }
-    ensures { λ r. ⌜ r ≡ m % 2 ^ i ⌝ }
-{
-    m as usize % power_of_two(i)
 }

@@ -10,6 +10,7 @@ ghost use Rattle.decimal.specs.Wrote.{Wrote};
 ghost use Rattle.hoa_text.specs.Written.{text, hoaLine, statesLine, startLine, namesPart, acceptanceLine, bodyLine, stateLines, endLine};
 ghost use Rattle.hoa_write.specs.Answer.{Answered};
 
+mod condition;
 mod edges;
 mod lines;
 mod parts;

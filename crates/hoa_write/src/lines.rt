@@ -1,6 +1,6 @@
 // The header's lines and those of the body that have one word or one number. Each is written at the start of what is lent: the
 // part of the buffer that begins after the bytes already written.
-use crate::parts::byte_if;
+use crate::condition::condition;
 use crate::parts::number;
 use automaton::Automaton;
 use pieces::byte;
@@ -11,8 +11,7 @@ ghost use lib.ListN.{length};
 ghost use Rattle.meaning.specs.Counting.{each};
 ghost use Rattle.automaton.specs.Value.{Valid};
 ghost use Rattle.decimal.specs.Wrote.{Wrote};
-ghost use Rattle.hoa_text.specs.Written.{decimal, line, hoaLine, namesPart, namesLine, quotedName, acceptanceLine, conditionOf, infOf};
-ghost use Rattle.hoa_write.specs.Pieces.{infPiece};
+ghost use Rattle.hoa_text.specs.Written.{decimal, line, hoaLine, namesPart, namesLine, quotedName, acceptanceLine};
 
 pub fn hoa_line(out: &mut [u8]) -> usize
     requires { ⌜ length hoaLine ≤ length (now out) ⌝ }
@@ -105,40 +104,6 @@ pub fn acceptance_line(a: Automaton, out: &mut [u8]) -> usize
 {
     let mut at = item(&hoa_words::ACCEPTANCE, a.sets, out);
     at = byte(b' ', out, at);
-    at = condition(a.sets, out, at);
+    at = condition(a.acceptance, a.sets, out, at);
     byte(b'\n', out, at)
-}
-
-fn condition(sets: usize, out: &mut [u8], at: usize) -> usize
-    requires { ⌜ (sets ≤ 4) × (at + length (conditionOf sets) ≤ length (now out)) ⌝ }
-    ensures { λ r. ⌜ Wrote (now (out .entry)) at (conditionOf sets) (now (out .exit)) r ⌝ }
-{
-    if sets == 0 {
-        return word(&hoa_words::TRUE, out, at);
-    }
-    infs(sets, out, at)
-}
-
-fn infs(sets: usize, out: &mut [u8], at: usize) -> usize
-    requires { ⌜ (sets ≤ 4) × (at + length (each sets infPiece) ≤ length (now out)) ⌝ }
-    ensures { λ r. ⌜ Wrote (now (out .entry)) at (each sets infPiece) (now (out .exit)) r ⌝ }
-{
-    let mut next = at;
-    let mut i: usize = 0;
-    while i < sets {
-        next = byte_if(i > 0, b'&', out, next);
-        next = inf(i, out, next);
-        i += 1;
-    }
-    next
-}
-
-fn inf(i: usize, out: &mut [u8], at: usize) -> usize
-    requires { ⌜ (i < 100) × (at + length (infOf i) ≤ length (now out)) ⌝ }
-    ensures { λ r. ⌜ Wrote (now (out .entry)) at (infOf i) (now (out .exit)) r ⌝ }
-{
-    let mut next = word(&hoa_words::INF, out, at);
-    next = byte(b'(', out, next);
-    next = number(i, out, next);
-    byte(b')', out, next)
 }

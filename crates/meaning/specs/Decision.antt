@@ -3,18 +3,18 @@ use mathlib.Core.Path.{_≡_, refl, sym, _∙_}
 use mathlib.Core.Logic.{_≢_, _⊎_, inl, inr, ⊎-elim}
 use mathlib.Core.List.{List, [], _∷_, cons≢nil}
 use mathlib.Core.Bool.{Bool, true, false, true≢false}
-use Prim.Native.Nat.{ℕ, suc, _+_, _*_, _≤_, _<_, max}
-use native.Mathlib.Nat.{add-comm, mul-comm, mul-le-mul-right, le-trans}
+use Prim.Native.Nat.{ℕ, suc, _+_, _*_, _≤_, _<_}
+use native.Mathlib.Nat.{add-comm, mul-comm}
 use native.Mathlib.Decide.{ℕ-discrete}
 use native.Mathlib.Omega.{arith}
 use lib.ListN.{length}
 use Rattle.meaning.specs.Walk.{run}
-use Rattle.meaning.specs.Automata.{Aut, WellFormed, EverySet, Accepts}
+use Rattle.meaning.specs.Automata.{Aut, WellFormed, Accepts}
 use Rattle.meaning.specs.Agreement.{Agree, AgreeOn, Comparable, Distinguishes, Over, lasso}
 use Rattle.meaning.specs.Run.{after}
 use Rattle.meaning.specs.ClosedLoop.{verdict, Closed, CyclesAgree, lasso-verdict}
 use Rattle.meaning.specs.CycleLemma.{cycles→agree}
-use Rattle.meaning.specs.Difference.{Differ, LoopWithin, short-prefix, short-loop, short-loop-every}
+use Rattle.meaning.specs.Difference.{Differ, LoopWithin, short-prefix, short-loop}
 use Rattle.meaning.specs.WordSearch.{search-words}
 
 pub flip : {A B : Aut} → Comparable A B → Comparable B A
@@ -35,9 +35,6 @@ not-both f (inr D) = true≢false (sym (D .yes-A) ∙ sym (f (D .some) (D .close
 -- each difference shows after the same prefix in a loop of at most m letters
 abbrev pub ShowsWithin : Aut → Aut → ℕ → Type 0
 ShowsWithin A B m = (x y : List ℕ) → Difference A B x y → (v : List ℕ) × Difference A B x v × (length v ≤ m)
-
-within-more : (A B : Aut) (k m : ℕ) → k ≤ m → LoopWithin A B k → LoopWithin A B m
-within-more A B k m h f x y D = let (v, E, g) = f x y D in (v, E, le-trans g h)
 
 module _ {A B : Aut} (C : Comparable A B) where
   -- words over the letters of one are words over the letters of the other
@@ -108,15 +105,6 @@ module _ {A B : Aut} (C : Comparable A B) where
   either-way : (m : ℕ) → LoopWithin A B m → LoopWithin B A m → ShowsWithin A B m
   either-way m f g x y (inl D) = let (v, E, h) = f x y D in (v, inl E, h)
   either-way m f g x y (inr D) = let (v, E, h) = g x y D in (v, inr E, h)
-
-  -- for generalized Büchi acceptance, and for any
-  pub shows-every : EverySet A → EverySet B → ShowsWithin A B (suc (max (A .sets) (B .sets)) * (A .states * B .states))
-  shows-every ea eb =
-      let a : suc (A .sets) ≤ suc (max (A .sets) (B .sets)) = omega arith in
-      let b : suc (B .sets) ≤ suc (max (A .sets) (B .sets)) = omega arith in
-      either-way _
-      (within-more A B _ _ (mul-le-mul-right N a) (short-loop-every C ea eb))
-      (within-more B A _ _ (mul-le-mul-right N b) (rw (mul-comm (B .states) (A .states)) at (short-loop-every (flip C) eb ea)))
 
   pub shows-any : ShowsWithin A B (suc (A .sets + B .sets) * (A .states * B .states))
   shows-any = either-way _ (short-loop C) (rw (mul-comm (B .states) (A .states), add-comm (B .sets) (A .sets)) at (short-loop (flip C)))

@@ -85,15 +85,6 @@ pub all-of : (n : ℕ) (p : ℕ → Bool) → ((l : ℕ) → l < n → p l ≡ t
 all-of zero p h = refl
 all-of (suc n) p h = and-true (h n (omega arith)) (all-of n p (λ l k. h l (omega arith)))
 
--- where not all hold, one fails
-pub all-not : (n : ℕ) (p : ℕ → Bool) → all n p ≡ false → (l : ℕ) × (l < n) × (p l ≡ false)
-all-not zero p h = absurd (true≢false h)
-all-not (suc n) p h = go (p n) refl h (λ k. all-not n p k)
-  where
-    go : (b : Bool) → p n ≡ b → (b && all n p) ≡ false → (all n p ≡ false → (l : ℕ) × (l < n) × (p l ≡ false)) → (l : ℕ) × (l < suc n) × (p l ≡ false)
-    go true e k ih = let t = ih k in (t .0, omega arith, t .2)
-    go false e k ih = (n, omega arith, e)
-
 pub all-off : (n : ℕ) (p : ℕ → Bool) (l : ℕ) → l < n → p l ≡ false → all n p ≡ false
 all-off n p l h e = go (all n p) refl
   where

@@ -1,11 +1,11 @@
 -- Laws of walks: one after another, in parts, and the steps that they meet.
-use mathlib.Core.Path.{_≡_, refl, ap, _∙_}
+use mathlib.Core.Path.{_≡_, refl, ap}
 use mathlib.Core.Logic.{_⊎_, inl, inr}
 use mathlib.Core.List.{List, [], _∷_, _++_}
-use mathlib.Core.Bool.{Bool, true, false, _||_, false≢true}
+use mathlib.Core.Bool.{Bool, true, _||_, false≢true}
 use Prim.Native.Nat.{ℕ, zero, suc}
 use lib.ListN.{take, drop}
-use Rattle.meaning.specs.TestLaws.{or-left, or-right, or-cases, or-false}
+use Rattle.meaning.specs.TestLaws.{or-left, or-right, or-cases}
 use Rattle.meaning.specs.Walk.{run, Walk, meets}
 
 module _ {Q : Type 0} (σ : Q → ℕ → Q) where
@@ -65,17 +65,7 @@ module _ {Q : Type 0} (σ : Q → ℕ → Q) where
         go (inl e) ih = ([], l, w, refl, e)
         go (inr e) ih = let t = ih e in (l ∷ t .0, t .1, t .2, ap (λ r. l ∷ r) (t .3), t .4)
 
-    -- a walk that keeps off m meets no step of m
-    pub meets-none : (q : Q) (w : List ℕ) → Walk σ (λ p l. m p l ≡ false) q w → meets σ m q w ≡ false
-    meets-none q [] a = refl
-    meets-none q (l ∷ w) a = ap (λ b. b || meets σ m (σ q l) w) (a .0) ∙ meets-none (σ q l) w (a .1)
-
   -- a walk in other words
   pub walk-map : (E F : Q → ℕ → Type 0) → ((p : Q) (l : ℕ) → E p l → F p l) → (q : Q) (w : List ℕ) → Walk σ E q w → Walk σ F q w
   walk-map E F f q [] a = tt
   walk-map E F f q (l ∷ w) a = (f q l (a .0), walk-map E F f (σ q l) w (a .1))
-
-  -- a walk that meets no step of m keeps off m
-  pub walk-off : (E : Q → ℕ → Type 0) (m : Q → ℕ → Bool) (q : Q) (w : List ℕ) → Walk σ E q w → meets σ m q w ≡ false → Walk σ (λ p l. E p l × (m p l ≡ false)) q w
-  walk-off E m q [] a h = tt
-  walk-off E m q (l ∷ w) a h = ((a .0, or-false (m q l) (meets σ m (σ q l) w) h .0), walk-off E m (σ q l) w (a .1) (or-false (m q l) (meets σ m (σ q l) w) h .1))

@@ -2,7 +2,7 @@
 use Prim.Native.Nat.{ℕ}
 use Rattle.refusals.specs.declared.Code.{Code}
 use Rattle.refusals.specs.declared.Refusal.{Refusal}
-use Rattle.refusals.specs.declared.Refusal.the-variants.{Form, Size, Item, Undeclared, Outside, Body, SecondEdge, NoEdge, Dimensions, SolverForm, Literal, NoStep, Differ, Short, Propositions}
+use Rattle.refusals.specs.declared.Refusal.the-variants.{Form, Size, Item, OtherAcceptance, Undeclared, Outside, Body, SecondEdge, NoEdge, Dimensions, SolverForm, Literal, NoStep, Differ, Short, Propositions}
 
 abbrev pub row : ℕ → ℕ → ℕ → Code
 row number first second = record { number = number; first = first; second = second }
@@ -11,6 +11,7 @@ abbrev pub codeOf : Refusal → Code
 codeOf (Form offset) = row 1 offset 0
 codeOf (Size offset) = row 2 offset 0
 codeOf (Item offset) = row 3 offset 0
+codeOf OtherAcceptance = row 3 0 0
 codeOf (Undeclared offset) = row 4 offset 0
 codeOf Outside = row 4 0 0
 codeOf (Body offset state) = row 5 offset state

@@ -2,15 +2,17 @@
 ghost use mathlib.Core.Path.{_≡_};
 ghost use Rattle.refusals.specs.Refused.{codeOf};
 
-// The rows of document 01's table "What is turned down", in its order; the second row of 4 is a case of its own.
+// The rows of document 01's table "What is turned down", in its order; the second rows of 3 and 4 are cases of their own.
 pub enum Refusal {
     // A token that cannot continue the HOA form, at an offset.
     Form(usize),
     // More than the limits allow, at an offset.
     Size(usize),
-    // An item twice or missing, two names alike, another acceptance, at an offset.
+    // An item twice or missing, two names alike, at an offset.
     Item(usize),
-    // A state, destination, proposition or mark that was not declared, at an offset.
+    // An automaton handed over as a value, whose acceptance is not Inf of all sets.
+    OtherAcceptance,
+    // A state, destination, proposition, mark or set that was not declared, at an offset.
     Undeclared(usize),
     // A value outside "The automaton", or a carried state with a field out of its range.
     Outside,
@@ -61,6 +63,11 @@ impl Refusal {
             Refusal::Item(offset) => Code {
                 number: 3,
                 first: offset,
+                second: 0,
+            },
+            Refusal::OtherAcceptance => Code {
+                number: 3,
+                first: 0,
                 second: 0,
             },
             Refusal::Undeclared(offset) => Code {

@@ -13,7 +13,7 @@ use Rattle.search.specs.declared.Answer.{Answer}
 use Rattle.search.specs.declared.Answer.the-variants.{Taken, Finished, Refused}
 use Rattle.search.specs.declared.Reply.{Reply}
 use Rattle.search_rule.specs.Rule as rule
-use Rattle.search.specs.Replies.{Found, Told}
+use Rattle.search.specs.Replies.{InfOfAll, Found, Told}
 
 -- ---- the calls
 
@@ -113,6 +113,8 @@ pub record Searches (a : Automaton) (cs : List Call) (s : Search) : Type 0 where
   pub agrees : Agree (view (s .best)) (view a)
   pub states-le : s .best .states ≤ a .states
   pub same-propositions : s .best .propositions ≡ a .propositions
+  -- and its acceptance is Inf of all sets, unless it is still the reference
+  pub inf-of-all : (s .best ≡ a) ⊎ InfOfAll (s .best)
   -- a question for at least one state, or a reason to ask no more
   pub asks : Asks a cs s
   pub n-some : s .finished ≡ false → 1 ≤ s .n

@@ -1,5 +1,6 @@
 -- What every state of a search keeps, and how far each verdict that is taken brings it to its end.
 use mathlib.Core.Path.{_≡_, refl, ap, _∙_, subst}
+use mathlib.Core.Logic.{_⊎_, inl, inr}
 use mathlib.Core.Bool.{Bool, true, false, cond, true≢false}
 use Prim.Native.Nat.{ℕ, _+_, _-_, _≤_, _<_}
 use native.Mathlib.Omega.{arith}
@@ -13,6 +14,7 @@ use Rattle.automaton.specs.View.{view}
 use Rattle.automaton.specs.ViewLaws.{view-formed}
 use Rattle.search_rule.specs.declared.Search.{Search}
 use Rattle.search_rule.specs.Rule.{below, fresh, found, risen, ended, none}
+use Rattle.search.specs.Replies.{InfOfAll}
 use Rattle.search.specs.Calls.{Verdict}
 use Rattle.search.specs.Moves.{Fitting, Moves, by-table, by-none, by-unknown}
 
@@ -24,6 +26,7 @@ pub record Kept (a : Automaton) (s : Search) : Type 0 where
   pub agrees : Agree (view (s .best)) (view a)
   pub states-le : s .best .states ≤ a .states
   pub same-propositions : s .best .propositions ≡ a .propositions
+  pub inf-of-all : (s .best ≡ a) ⊎ InfOfAll (s .best)
   pub n-is : s .n ≡ below (s .best .states)
   pub m-from : a .sets ≤ s .m
   pub m-le : s .m ≤ 4
@@ -37,6 +40,7 @@ kept-fresh {a} v = record {
   agrees = agree-self (view-formed v);
   states-le = omega arith;
   same-propositions = refl;
+  inf-of-all = inl refl;
   n-is = refl;
   m-from = omega arith;
   m-le = v .sets-le;
@@ -56,6 +60,7 @@ module _ {a : Automaton} {s : Search} (k : Kept a s) (u : s .finished ≡ false)
     agrees = subst (λ b. Agree (view t) (view b)) (k .reference) (f .agrees);
     states-le = omega (arith, found-fewer f, k .states-le);
     same-propositions = f .same-propositions ∙ ap (λ b. b .propositions) (k .reference);
+    inf-of-all = inr (f .inf-of-all);
     n-is = omega (arith, f .asked-for .states, k .n-is);
     m-from = k .m-from;
     m-le = k .m-le;
@@ -70,6 +75,7 @@ module _ {a : Automaton} {s : Search} (k : Kept a s) (u : s .finished ≡ false)
     agrees = k .agrees;
     states-le = k .states-le;
     same-propositions = k .same-propositions;
+    inf-of-all = k .inf-of-all;
     n-is = refl;
     m-from = omega (arith, k .m-from);
     m-le = omega arith;
@@ -84,6 +90,7 @@ module _ {a : Automaton} {s : Search} (k : Kept a s) (u : s .finished ≡ false)
     agrees = k .agrees;
     states-le = k .states-le;
     same-propositions = k .same-propositions;
+    inf-of-all = k .inf-of-all;
     n-is = k .n-is;
     m-from = k .m-from;
     m-le = k .m-le;

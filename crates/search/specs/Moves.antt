@@ -16,13 +16,14 @@ use Rattle.search.specs.declared.Answer.the-variants.{Taken, Finished}
 use Rattle.search.specs.declared.Reply.{Reply}
 use Rattle.search_rule.specs.Rule as rule
 use Rattle.search.specs.Replies as reply
-use Rattle.search.specs.Replies.{AskedFor, replied, refused}
+use Rattle.search.specs.Replies.{AskedFor, InfOfAll, replied, refused}
 use Rattle.search.specs.Calls.{Verdict, table, none, unknown, Meets, one-taken}
 
 -- a table that the rule takes
 pub record Fitting (s : Search) (t : Automaton) : Type 0 where
   pub valid : Valid t
   pub asked-for : AskedFor s t
+  pub inf-of-all : InfOfAll t
   pub same-propositions : t .propositions ≡ s .reference .propositions
   pub agrees : Agree (view t) (view (s .reference))
 
@@ -63,9 +64,10 @@ step s (table t p q l m) r k = go k
     go (reply.outside h g (e, x, y, c)) = turned-down e
     go (reply.finished h i w g (e, x, y, c)) = over e
     go (reply.dimensions h j g (e, x, y, c)) = turned-down e
-    go (reply.letters h j a g (e, x, y, c)) = turned-down e
-    go (reply.differ h j a g f d) = turned-down (d .says)
-    go (reply.taken h j a g f (e, x, y, c)) =
-        goes-on (j .unfinished) e (by-table (record { valid = j .valid; asked-for = a; same-propositions = g; agrees = f }))
+    go (reply.acceptance h j a i (e, x, y, c)) = turned-down e
+    go (reply.letters h j a i g (e, x, y, c)) = turned-down e
+    go (reply.differ h j a i g f d) = turned-down (d .says)
+    go (reply.taken h j a i g f (e, x, y, c)) =
+        goes-on (j .unfinished) e (by-table (record { valid = j .valid; asked-for = a; inf-of-all = i; same-propositions = g; agrees = f }))
 step s none r k = step-told by-none k
 step s unknown r k = step-told by-unknown k

@@ -10,8 +10,9 @@ use Rattle.meaning.specs.Agreement.{Agree}
 use Rattle.automaton.specs.declared.Automaton.{Automaton}
 use Rattle.refusals.specs.declared.Code.{Code}
 use Rattle.refusals.specs.declared.Refusal.{Refusal}
-use Rattle.refusals.specs.declared.Refusal.the-variants.{Outside, Dimensions, Differ, Short, Propositions}
+use Rattle.refusals.specs.declared.Refusal.the-variants.{OtherAcceptance, Outside, Dimensions, Differ, Short, Propositions}
 use Rattle.refusals.specs.Refused.{row, codeOf}
+use Rattle.acceptance.specs.Masks.{everySet}
 use Rattle.automaton.specs.Value.{Valid, empty}
 use Rattle.automaton.specs.View.{view}
 use Rattle.compare.specs.declared.Comparison.{Comparison}
@@ -81,6 +82,10 @@ pub record AskedFor (s : Search) (table : Automaton) : Type 0 where
   pub states : table .states ≡ s .n
   pub sets : table .sets ≡ s .m
 
+-- "search and clause program use Inf of all"
+abbrev pub InfOfAll : Automaton → Type 0
+InfOfAll table = table .acceptance ≡ everySet (table .sets)
+
 -- what becomes of a found table: the reply, and the buffers before and after
 module _ (s : Search) (table : Automaton) (prefix prefix-after loop loop-after : List ℕ) (r : Reply) where
   -- a reply that leaves both buffers as they were, with what it returns
@@ -94,8 +99,8 @@ module _ (s : Search) (table : Automaton) (prefix prefix-after loop loop-after :
     pub says : r ≡ refused (Differ (length (shown .x)) (length (shown .y))) s
     pub number : returned (r .answer) ≡ some (row 12 (length (shown .x)) (length (shown .y)))
 
-  -- "Order: 13 (prefix before loop), 4 for handed values", then "finished", 8 "with its own two counts", and the comparison again: 14, 12. Each row's
-  -- conditions shut out the other rows, so that one reply is due on each input.
+  -- "Order: 13 (prefix before loop), 4 for handed values", then "finished", 8 "with its own two counts", document 02's "a found table with another gets
+  -- 3, 0, 0, after 8", and the comparison again: 14, 12. Each row's conditions shut out the other rows, so that one reply is due on each input.
   pub data Found : Type 0 where
     short-prefix : length prefix < prefixRoom → Untouched (refused (Short prefixRoom (length prefix)) s) (some (row 13 prefixRoom (length prefix))) → Found
     short-loop : prefixRoom ≤ length prefix → length loop < loopRoom → Untouched (refused (Short loopRoom (length loop)) s) (some (row 13 loopRoom (length loop))) → Found
@@ -103,10 +108,11 @@ module _ (s : Search) (table : Automaton) (prefix prefix-after loop loop-after :
     finished : Room prefix loop → InRange s → Valid table → s .finished ≡ true → Untouched (replied Finished s) none → Found
     dimensions : Room prefix loop → Admitted s table → ¬ AskedFor s table
         → Untouched (refused (Dimensions (table .states) (table .sets)) s) (some (row 8 (table .states) (table .sets))) → Found
-    letters : Room prefix loop → Admitted s table → AskedFor s table → table .propositions ≢ s .reference .propositions
+    acceptance : Room prefix loop → Admitted s table → AskedFor s table → ¬ InfOfAll table → Untouched (refused OtherAcceptance s) (some (row 3 0 0)) → Found
+    letters : Room prefix loop → Admitted s table → AskedFor s table → InfOfAll table → table .propositions ≢ s .reference .propositions
         → Untouched (refused (Propositions (table .propositions) (s .reference .propositions)) s) (some (row 14 (table .propositions) (s .reference .propositions)))
         → Found
-    differ : Room prefix loop → Admitted s table → AskedFor s table → table .propositions ≡ s .reference .propositions
+    differ : Room prefix loop → Admitted s table → AskedFor s table → InfOfAll table → table .propositions ≡ s .reference .propositions
         → ¬ Agree (view table) (view (s .reference)) → Differs → Found
-    taken : Room prefix loop → Admitted s table → AskedFor s table → table .propositions ≡ s .reference .propositions
+    taken : Room prefix loop → Admitted s table → AskedFor s table → InfOfAll table → table .propositions ≡ s .reference .propositions
         → Agree (view table) (view (s .reference)) → Untouched (replied Taken (found table s)) none → Found

@@ -39,6 +39,7 @@ module _ {a : Automaton} (v : Valid a) (cs : List Call) (k : Calls (fresh a) cs)
         agrees = e .agrees;
         states-le = e .states-le;
         same-propositions = e .same-propositions;
+        inf-of-all = e .inf-of-all;
         asks = record { n-is = e .n-is; m-from = e .m-from; m-le = e .m-le; tried = tried-after (fresh a) cs (kept-fresh v) k };
         n-some = e .n-some;
         not-open = e .not-open;

@@ -1,4 +1,5 @@
 // The search for fewer states: how it starts, and what it makes of each answer to its question.
+use acceptance::every_set;
 use automaton::Automaton;
 use compare::Comparison;
 use refusals::Refusal;
@@ -75,6 +76,9 @@ pub fn found(search: Search, table: Automaton, prefix: &mut [u8], cycle: &mut [u
     }
     if !asked_for(search, table) {
         return refused(Refusal::Dimensions(table.states, table.sets), search);
+    }
+    if table.acceptance != every_set(table.sets) {
+        return refused(Refusal::OtherAcceptance, search);
     }
     let reference = search.reference;
     let comparison = compare::compare(table, reference, prefix, cycle);

@@ -3,10 +3,10 @@ use Prim.Native.Nat.{_≤_}
 use Rattle.automaton.specs.declared.Automaton.{Automaton}
 use Rattle.automaton.specs.Value.{Valid}
 use Rattle.clause_sizes.specs.declared.Target.{Target}
-use Rattle.clause_sizes.specs.Targets.{Dimensioned, last, kept}
+use Rattle.clause_sizes.specs.Targets.{Proper, last, kept}
 use Rattle.clause_sizes.specs.Limits as Limits
 
-module _ {a : Automaton} {τ : Target} (v : Valid a) (d : Dimensioned τ) where
+module _ {a : Automaton} {τ : Target} (v : Valid a) (d : Proper τ) where
   pub kept-le : kept a τ ≤ 5120
   kept-le = Limits.marks-le (Limits.sizes-fit v d)
 

@@ -13,7 +13,7 @@ use Rattle.refusals.specs.declared.Refusal.{Refusal}
 use Rattle.refusals.specs.declared.Refusal.the-variants.{SolverForm}
 use Rattle.automaton.specs.Value.{Valid}
 use Rattle.clause_sizes.specs.declared.Target.{Target}
-use Rattle.clause_sizes.specs.Targets.{Dimensioned, last, kept}
+use Rattle.clause_sizes.specs.Targets.{Proper, last, kept}
 use Rattle.solver_text.specs.declared.Reader.{Reader}
 use Rattle.solver_text.specs.declared.Reply.{Reply}
 use Rattle.solver_text.specs.declared.Answer.the-variants.{Refused}
@@ -139,7 +139,7 @@ module _ (last kept : ℕ) (small : last ≤ 200000000) (fits : kept ≤ 5120) (
       refused-here = refusedAt (run last kept fresh text .scan .place)
 
 -- for a fresh reader and calls with any pieces: what the call with the next piece is answered
-pub piece-refused-exactly : {a : Automaton} {τ : Target} → Valid a → Dimensioned τ → {us : List (List ℕ)} {q : Reader} {e : Reply} → Reads a τ fresh us q
+pub piece-refused-exactly : {a : Automaton} {τ : Target} → Valid a → Proper τ → {us : List (List ℕ)} {q : Reader} {e : Reply} → Reads a τ fresh us q
     → (u : List ℕ) → Called a τ q (told (run (last a τ) (kept a τ) q u)) e → RefusedExactly (last a τ) (kept a τ) (joined us ++ u) (e .answer)
 piece-refused-exactly {a} {τ} v z {us} {q} {e} k u c =
     let L = last a τ in

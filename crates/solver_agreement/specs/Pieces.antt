@@ -9,7 +9,7 @@ use Rattle.refusals.specs.declared.Refusal.{Refusal}
 use Rattle.refusals.specs.declared.Refusal.the-variants.{SolverForm, Literal}
 use Rattle.automaton.specs.Value.{Valid}
 use Rattle.clause_sizes.specs.declared.Target.{Target}
-use Rattle.clause_sizes.specs.Targets.{Dimensioned, last, kept}
+use Rattle.clause_sizes.specs.Targets.{Proper, last, kept}
 use Rattle.solver_text.specs.declared.Reader.{Reader}
 use Rattle.solver_text.specs.declared.Reply.{Reply}
 use Rattle.solver_text.specs.declared.Answer.the-variants.{Accepted, Refused}
@@ -29,7 +29,7 @@ pub run-append : (last kept : ℕ) (r : Reader) (u w : List ℕ) → run last ke
 run-append last kept r [] w = refl
 run-append last kept r (b ∷ u) w = run-append last kept (step last kept (r .scan) (r .named) b) u w
 
-module _ {a : Automaton} {τ : Target} (v : Valid a) (z : Dimensioned τ) where
+module _ {a : Automaton} {τ : Target} (v : Valid a) (z : Proper τ) where
   -- for every list of pieces, and from every state in its ranges
   pub pieces : {r q : Reader} {us : List (List ℕ)} → InRange r → Reads a τ r us q → q ≡ run (last a τ) (kept a τ) r (joined us)
   pieces h none = refl
@@ -49,7 +49,7 @@ zeros (suc n) (suc i) = zeros n i
 pub fresh-range : InRange fresh
 fresh-range = record { letters-le = omega arith; value-le = omega arith; named-le = λ v h. omega (arith, zeros 5121 v) }
 
-module _ {a : Automaton} {τ : Target} (v : Valid a) (z : Dimensioned τ) {us : List (List ℕ)} {q : Reader} (k : Reads a τ fresh us q) where
+module _ {a : Automaton} {τ : Target} (v : Valid a) (z : Proper τ) {us : List (List ℕ)} {q : Reader} (k : Reads a τ fresh us q) where
   pub reads-run : q ≡ run (last a τ) (kept a τ) fresh (joined us)
   reads-run = pieces v z fresh-range k
 
@@ -106,7 +106,7 @@ module _ (kept : ℕ) where
   tells BadLiteral s t x p e = failed-tells (at-rest s t) (Literal (s .at)) x e
 
 -- "Text may arrive cut anywhere; the answer is that of the whole text": a fresh reader, calls with any pieces, and the end
-pub whole-text : {a : Automaton} {τ : Target} → Valid a → Dimensioned τ → {us : List (List ℕ)} {q : Reader} {e : Reply} → Reads a τ fresh us q → Ends a τ q e
+pub whole-text : {a : Automaton} {τ : Target} → Valid a → Proper τ → {us : List (List ℕ)} {q : Reader} {e : Reply} → Reads a τ fresh us q → Ends a τ q e
     → Tells (kept a τ) (outcome (last a τ) (kept a τ) (joined us)) e
 whole-text {a} {τ} v z {us} {q} {e} k c =
     let L = last a τ in

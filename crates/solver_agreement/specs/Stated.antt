@@ -8,7 +8,7 @@ use lib.ListN.{getD}
 use Rattle.automaton.specs.declared.Automaton.{Automaton}
 use Rattle.automaton.specs.Value.{Valid}
 use Rattle.clause_sizes.specs.declared.Target.{Target}
-use Rattle.clause_sizes.specs.Targets.{Dimensioned, last, kept}
+use Rattle.clause_sizes.specs.Targets.{Proper, last, kept}
 use Rattle.solver_text.specs.declared.Reader.{Reader}
 use Rattle.solver_text.specs.declared.Reply.{Reply}
 use Rattle.solver_text.specs.declared.Answer.the-variants.{Accepted}
@@ -28,7 +28,7 @@ pub record Holds (kept : ℕ) (assignment : ℕ → Bool) (e : Reply) : Type 0 w
   pub verdict : e .reader .scan .verdict ≡ Satisfiable
   pub named : (v : ℕ) → 0 < v → v ≤ kept → eqb (getD (e .reader .named) v 0) 1 ≡ assignment v
 
-pub stated : {a : Automaton} {τ : Target} → Valid a → Dimensioned τ → {us : List (List ℕ)} {q : Reader} {e : Reply} → Reads a τ fresh us q → Ends a τ q e
+pub stated : {a : Automaton} {τ : Target} → Valid a → Proper τ → {us : List (List ℕ)} {q : Reader} {e : Reply} → Reads a τ fresh us q → Ends a τ q e
     → {assignment : ℕ → Bool} → States (last a τ) (kept a τ) (joined us) assignment → Holds (kept a τ) assignment e
 stated {a} {τ} v z {us} {q} {e} k c s =
     let t = whole-text v z k c in

@@ -6,7 +6,7 @@ use Rattle.clause_sizes.specs.declared.Target.{Target}
 use Rattle.clause_sizes.specs.declared.Sizes.{Sizes}
 use Rattle.clause_sizes.specs.declared.Sized.{Sized}
 use Rattle.clause_sizes.specs.declared.Sized.the-variants.{Of, Refused}
-use Rattle.clause_sizes.specs.Sizes.{Sizing, Fitting, outside, dimensions}
+use Rattle.clause_sizes.specs.Sizes.{Sizing, Fitting, outside, dimensions, past-sets}
 use Rattle.clause_sizes.specs.Limits.{sizes-fit}
 use Rattle.solver_text.specs.declared.Reader.{Reader}
 use Rattle.solver_text.specs.declared.Reply.{Reply}
@@ -27,6 +27,9 @@ module _ (a : Automaton) (τ : Target) (r : Reader) where
   called-read (h, v, d, s) q = called-text v h d q
 
   pub called-refused : {f : Refusal} {read e : Reply} → Judged a τ r (Refused f) → e ≡ refusal f r → Called a τ r read e
-  called-refused (state k) q = called (λ v. q) (λ s. q) (λ v s z. absurd (k s)) (λ v s z. absurd (k s))
-  called-refused (call h (outside k)) q = called (λ v. q) (λ s. q) (λ v s z. absurd (k v)) (λ v s z. absurd (k v))
-  called-refused (call h (dimensions v k)) q = called (λ i. absurd (i v)) (λ s. absurd (s h)) (λ v s z. q) (λ v s z. absurd (k z))
+  called-refused (state k) q = called (λ v. q) (λ s. q) (λ v s z. absurd (k s)) (λ v s d o. q) (λ v s p. absurd (k s))
+  called-refused (call h (outside k)) q = called (λ v. q) (λ s. q) (λ v s z. absurd (k v)) (λ v s d o. q) (λ v s p. absurd (k v))
+  called-refused (call h (dimensions v k)) q =
+      called (λ i. absurd (i v)) (λ s. absurd (s h)) (λ v s z. q) (λ v s d o. absurd (k d)) (λ v s p. absurd (k (p .dimensioned)))
+  called-refused (call h (past-sets v d k)) q =
+      called (λ i. absurd (i v)) (λ s. absurd (s h)) (λ v s z. absurd (z d)) (λ v s d o. q) (λ v s p. absurd (k (p .own-sets)))

@@ -5,6 +5,7 @@ use mathlib.Core.List.{List, [], _∷_, _++_}
 use mathlib.Core.Option.{Option, none as no-code, some}
 use Prim.Native.Nat.{ℕ, _≤_, _<_}
 use lib.ListN.{length, getD}
+use Rattle.acceptance.specs.Masks.{OwnSets}
 use Rattle.automaton.specs.declared.Automaton.{Automaton}
 use Rattle.refusals.specs.declared.Code.{Code}
 use Rattle.refusals.specs.declared.Refusal.{Refusal}
@@ -12,7 +13,7 @@ use Rattle.refusals.specs.declared.Refusal.the-variants.{Outside, Dimensions, S
 use Rattle.refusals.specs.Refused.{row, codeOf}
 use Rattle.automaton.specs.Value.{Valid}
 use Rattle.clause_sizes.specs.declared.Target.{Target}
-use Rattle.clause_sizes.specs.Targets.{Dimensioned, last, kept}
+use Rattle.clause_sizes.specs.Targets.{Dimensioned, Proper, last, kept}
 use Rattle.solver_text.specs.declared.Reader.{Reader}
 use Rattle.solver_text.specs.declared.Reply.{Reply}
 use Rattle.solver_text.specs.declared.Answer.{Answer}
@@ -32,25 +33,28 @@ abbrev pub returned : Answer → Option Code
 returned Accepted = no-code
 returned (Refused x) = some (codeOf x)
 
--- what a call returns, by document 01's rows: 4 for the automaton and the state, 8, and 9 and 10 where reading gives them
+-- what a call returns, by document 01's rows: 4 for the automaton and the state, 8, 4 for the named acceptance, and 9 and 10 where reading gives them
 pub record Returns (a : Automaton) (τ : Target) (r : Reader) (read : Reply) (returns : Option Code) : Type 0 where
   pub automaton : (Valid a → ⊥) → returns ≡ some (row 4 0 0)
   pub state : (InRange r → ⊥) → returns ≡ some (row 4 0 0)
   pub sizes : Valid a → InRange r → (Dimensioned τ → ⊥) → returns ≡ some (row 8 (τ .states) (τ .sets))
-  pub form : Valid a → InRange r → Dimensioned τ → (offset : ℕ) → read .answer ≡ Refused (SolverForm offset) → returns ≡ some (row 9 offset 0)
-  pub literal : Valid a → InRange r → Dimensioned τ → (offset : ℕ) → read .answer ≡ Refused (Literal offset) → returns ≡ some (row 10 offset 0)
-  pub accepted : Valid a → InRange r → Dimensioned τ → read .answer ≡ Accepted → returns ≡ no-code
+  pub acceptance : Valid a → InRange r → Dimensioned τ → (OwnSets (τ .acceptance) (τ .sets) → ⊥) → returns ≡ some (row 4 0 0)
+  pub form : Valid a → InRange r → Proper τ → (offset : ℕ) → read .answer ≡ Refused (SolverForm offset) → returns ≡ some (row 9 offset 0)
+  pub literal : Valid a → InRange r → Proper τ → (offset : ℕ) → read .answer ≡ Refused (Literal offset) → returns ≡ some (row 10 offset 0)
+  pub accepted : Valid a → InRange r → Proper τ → read .answer ≡ Accepted → returns ≡ no-code
 
 -- a refusal that speaks of the call and leaves the state as it was
 abbrev pub refusal : Refusal → Reader → Reply
 refusal x r = record { answer = Refused x; reader = r }
 
--- "4 for handed values, 8, then reading left to right": the reply e to a call with the state r, where `read` is what reading gives
+-- "4 for handed values, 8, then reading left to right", and of the named acceptance "a yes past m: 4, 0, 0, after 8": the reply e to a call with the
+-- state r, where `read` is what reading gives
 pub record Called (a : Automaton) (τ : Target) (r : Reader) (read e : Reply) : Type 0 where
   pub automaton : (Valid a → ⊥) → e ≡ refusal Outside r
   pub state : (InRange r → ⊥) → e ≡ refusal Outside r
   pub sizes : Valid a → InRange r → (Dimensioned τ → ⊥) → e ≡ refusal (Dimensions (τ .states) (τ .sets)) r
-  pub text : Valid a → InRange r → Dimensioned τ → e ≡ read
+  pub acceptance : Valid a → InRange r → Dimensioned τ → (OwnSets (τ .acceptance) (τ .sets) → ⊥) → e ≡ refusal Outside r
+  pub text : Valid a → InRange r → Proper τ → e ≡ read
   pub returns : Returns a τ r read (returned (e .answer))
 
 -- "its own state goes likewise from piece to piece, empty ones too": calls with the pieces of a list, from the state r to the state q

@@ -7,7 +7,7 @@ use Rattle.refusals.specs.declared.Refusal.{Refusal}
 use Rattle.refusals.specs.declared.Refusal.the-variants.{Outside}
 use Rattle.automaton.specs.Value.{Valid}
 use Rattle.clause_sizes.specs.declared.Target.{Target}
-use Rattle.clause_sizes.specs.Targets.{Dimensioned}
+use Rattle.clause_sizes.specs.Targets.{Proper}
 use Rattle.clause_sizes.specs.declared.Sized.{Sized}
 use Rattle.clause_sizes.specs.declared.Sized.the-variants.{Of, Refused}
 use Rattle.clause_sizes.specs.Sizes.{Refuses, sizesOf}
@@ -21,5 +21,5 @@ pub data Objects (a : Automaton) (τ : Target) (r : Reader) : Refusal → Type 0
 
 -- the sizes of the file, or the objection
 abbrev pub Judged : Automaton → Target → Reader → Sized → Type 0
-Judged a τ r (Of z) = InRange r × Valid a × Dimensioned τ × (z ≡ sizesOf a τ)
+Judged a τ r (Of z) = InRange r × Valid a × Proper τ × (z ≡ sizesOf a τ)
 Judged a τ r (Refused f) = Objects a τ r f

@@ -19,7 +19,7 @@ ghost use Rattle.clause_sizes.specs.Numbers.{lastVariable};
 ghost use Rattle.solver_text.specs.Calls.{InRange, refusal};
 ghost use Rattle.solver_text.specs.Objection.{Judged};
 
-// 4 for the state or the automaton, 8; or the sizes of the file.
+// 4 for the state or the automaton, 8, 4 for the named acceptance; or the sizes of the file.
 pub fn judge(reader: Reader, reference: Automaton, target: Target) -> Sized
     ensures { λ r. ⌜ Judged reference target reader r ⌝ }
 {

@@ -9,7 +9,6 @@ use solver_scan::Scan;
 use solver_scan::Verdict;
 ghost use mathlib.Core.Path.{_≡_};
 ghost use Rattle.clause_sizes.specs.Targets.{last, kept};
-ghost use Rattle.clause_sizes.specs.Targets.{last, kept};
 ghost use Rattle.solver_text.specs.Calls.{Called};
 ghost use Rattle.solver_text.specs.Machine.{fresh, run, end, told, at-rest, answerAt};
 

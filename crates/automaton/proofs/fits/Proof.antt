@@ -13,12 +13,12 @@ returns : tie.Need-returns
 unfolding fits
 returns c = rw (sym (c .before .counts-fit .ensures) ∙ not-true _ (c .if1 .taken))
 
-acceptance-fits-requires : tie.Need-acceptance-fits-requires
-acceptance-fits-requires c κs = search needs
+own-sets-requires : tie.Need-own-sets-requires
+own-sets-requires c κs = search needs
 
 returns-2 : tie.Need-returns-2
 unfolding fits
-returns-2 c = rw (sym (c .before .before .before .counts-fit .ensures) ∙ not-false _ (c .before .before .if1 .left), sym (c .before .acceptance-fits .ensures) ∙ not-true _ (c .if2 .taken))
+returns-2 c = rw (sym (c .before .before .before .counts-fit .ensures) ∙ not-false _ (c .before .before .if1 .left), sym (c .before .own-sets .ensures) ∙ not-true _ (c .if2 .taken))
 
 tables-fit-requires : tie.Need-tables-fit-requires
 tables-fit-requires c κs = search needs
@@ -27,7 +27,7 @@ returns-3 : tie.Need-returns-3
 unfolding fits
 returns-3 c =
     let e = c .before .before in
-    rw (sym (e .before .before .before .counts-fit .ensures) ∙ not-false _ (e .before .before .if1 .left), sym (e .before .acceptance-fits .ensures) ∙ not-false _ (e .if2 .left), sym (c .before .tables-fit .ensures) ∙ not-true _ (c .if3 .taken))
+    rw (sym (e .before .before .before .counts-fit .ensures) ∙ not-false _ (e .before .before .if1 .left), sym (e .before .own-sets .ensures) ∙ not-false _ (e .if2 .left), sym (c .before .tables-fit .ensures) ∙ not-true _ (c .if3 .taken))
 
 named-requires : tie.Need-named-requires
 named-requires c κs = search needs
@@ -37,7 +37,7 @@ unfolding fits
 returns-4 c =
     let e = c .before .before .before in
     let g = e .before .before in
-    rw (sym (g .before .before .before .counts-fit .ensures) ∙ not-false _ (g .before .before .if1 .left), sym (g .before .acceptance-fits .ensures) ∙ not-false _ (g .if2 .left), sym (e .before .tables-fit .ensures) ∙ not-false _ (e .if3 .left)) (c .named .ensures)
+    rw (sym (g .before .before .before .counts-fit .ensures) ∙ not-false _ (g .before .before .if1 .left), sym (g .before .own-sets .ensures) ∙ not-false _ (g .if2 .left), sym (e .before .tables-fit .ensures) ∙ not-false _ (e .if3 .left)) (c .named .ensures)
 
 pub fits-spec : {M : Type 1} → statement M
 fits-spec =
@@ -45,7 +45,7 @@ fits-spec =
     (tie.spec
     counts-fit-requires
     returns
-    acceptance-fits-requires
+    own-sets-requires
     returns-2
     tables-fit-requires
     returns-3

@@ -19,23 +19,20 @@ mul-steps-2 c = omega (arith, square-le (c .before .pre .0 .n-le) (c .power-of-t
 power-of-two-requires-2 : tie.Need-power-of-two-requires-2
 power-of-two-requires-2 c κs = search needs
 
-every-set-requires : tie.Need-every-set-requires
-every-set-requires c κs = search needs
-
 power-of-two-requires-3 : tie.Need-power-of-two-requires-3
 power-of-two-requires-3 c κs = search needs
 
-mul-t15 : tie.Need-mul-t15
-mul-t15 c = omega (arith, square-le (c .before .before .before .before .pre .0 .n-le) (c .before .before .before .power-of-two .ensures .1 .1), mul-le-mul (square-le (c .before .before .before .before .pre .0 .n-le) (c .before .before .before .power-of-two .ensures .1 .1)) (c .before .before .before .before .pre .0 .m-le))
+mul-t14 : tie.Need-mul-t14
+mul-t14 c = omega (arith, square-le (c .before .before .before .pre .0 .n-le) (c .before .before .power-of-two .ensures .1 .1), mul-le-mul (square-le (c .before .before .before .pre .0 .n-le) (c .before .before .power-of-two .ensures .1 .1)) (c .before .before .before .pre .0 .m-le))
 
-add-t16 : tie.Need-add-t16
-add-t16 c = omega (arith, square-le (c .before .before .before .before .pre .0 .n-le) (c .before .before .before .power-of-two .ensures .1 .1), mul-le-mul (square-le (c .before .before .before .before .pre .0 .n-le) (c .before .before .before .power-of-two .ensures .1 .1)) (c .before .before .before .before .pre .0 .m-le))
+add-t15 : tie.Need-add-t15
+add-t15 c = omega (arith, square-le (c .before .before .before .pre .0 .n-le) (c .before .before .power-of-two .ensures .1 .1), mul-le-mul (square-le (c .before .before .before .pre .0 .n-le) (c .before .before .power-of-two .ensures .1 .1)) (c .before .before .before .pre .0 .m-le))
 
 returns : tie.Need-returns
-returns c = let h = c .before .before .before .before .pre in
-    measured-is (h .0 .m-le) (h .1) (h .2) (c .before .before .before .power-of-two .ensures .0) (c .before .before .power-of-two2 .ensures .0) (c .power-of-two3 .ensures .0) (c .before .every-set .ensures)
+returns c = let h = c .before .before .before .pre in
+    measured-is (h .0 .m-le) (h .1) (h .2) (c .before .before .power-of-two .ensures .0) (c .before .power-of-two2 .ensures .0) (c .power-of-two3 .ensures .0)
 
 pub measured-spec : {M : Type 1} → statement M
 measured-spec =
     tie.close
-    (tie.spec power-of-two-requires mul-steps mul-steps-2 power-of-two-requires-2 every-set-requires power-of-two-requires-3 mul-t15 add-t16 returns)
+    (tie.spec power-of-two-requires mul-steps mul-steps-2 power-of-two-requires-2 power-of-two-requires-3 mul-t14 add-t15 returns)

@@ -36,7 +36,7 @@ returns-3 : tie.Need-returns-3
 returns-3 c = let (v, i, q) = sizing-of (c .before .before .before .before .before .before .measure .ensures) (c .before .before .before .before .sized .given .1) in
     let a = c .before .before .before .before .before .before .before .before .before .args in
     stepped (a .reference) (a .target) (a .position) (a .clause .now) _ (c .before .find .result)
-    (record { room = omega arith; valid = v; in-range = omega arith; dimensioned = i })
+    (record { room = omega arith; valid = v; in-range = omega arith; proper = i })
     (subst (λ z. StepFound (a .reference) (targetOf z) (a .position) (a .clause .now) (c .before .find .last .1 .1 .1 .0) (c .before .find .result .answer) (c .before .find .result .position)) q (c .before .find .ensures))
 
 returns-4 : tie.Need-returns-4

@@ -36,7 +36,7 @@ returns-3 : tie.Need-returns-3
 returns-3 c = let (v, i, q) = sizing-of (c .before .before .before .before .before .before .before .measure .ensures) (c .before .before .before .before .before .sized .given .1) in
     let a = c .before .before .before .before .before .before .before .before .before .before .before .args in
     batch-accepted (a .reference) (a .target) (a .position) (a .text .now) _ (c .before .before .many-lines .result)
-    (record { room = omega arith; valid = v; in-range = omega arith; dimensioned = i })
+    (record { room = omega arith; valid = v; in-range = omega arith; proper = i })
     (subst (λ z. BatchFound (a .reference) (targetOf z) (a .position) (a .text .now) (c .before .before .many-lines .last .1 .1 .1 .0) (c .before .before .many-lines .result .answer) (c .before .before .many-lines .result .position)) q (c .before .before .many-lines .ensures))
 
 returns-4 : tie.Need-returns-4

@@ -2,7 +2,7 @@
 use mathlib.Core.Path.{subst}
 use borrow.Author.Needs.{needs}
 use Rattle.hoa_tokens.specs.Answers.{Reads}
-use Rattle.hoa_acceptance.proofs.ConditionLaws.{sets-missing, sets-over, sets-read}
+use Rattle.hoa_acceptance.proofs.AcceptanceLaws.{sets-missing, sets-over, sets-read}
 use Rattle.hoa_acceptance.proofs.acceptance.Statement.{statement}
 use Rattle.hoa_acceptance.proofs.acceptance.Tie as tie
 
@@ -15,14 +15,14 @@ enum-known-offset c = search needs
 returns : tie.Need-returns
 returns c = sets-over _ _ _ _ _ (subst (Reads _ _) (c .before .before .offset .given .1) (c .before .before .before .before .next-token .ensures)) (c .if1 .taken)
 
-condition-requires : tie.Need-condition-requires
-condition-requires c κs = ((subst (Reads _ _) (c .before .before .offset .given .1) (c .before .before .before .before .next-token .ensures)) .lies .to, c .if1 .left)
+counted-requires : tie.Need-counted-requires
+counted-requires c κs = c .if1 .left
 
 offset-requires : tie.Need-offset-requires
 offset-requires c κs = search needs
 
 returns-2 : tie.Need-returns-2
-returns-2 c = sets-read _ _ _ _ _ (subst (Reads _ _) (c .before .before .before .offset .given .1) (c .before .before .before .before .before .next-token .ensures)) (c .before .if1 .left) (c .condition .result) (c .condition .ensures)
+returns-2 c = sets-read _ _ _ _ _ (subst (Reads _ _) (c .before .before .before .offset .given .1) (c .before .before .before .before .before .next-token .ensures)) (c .before .if1 .left) (c .counted .result) (c .counted .ensures)
 
 returns-3 : tie.Need-returns-3
 returns-3 c = sets-missing _ _ _ _ (c .before .before .next-token .ensures) (c .before .match .keys2) (c .offset2 .ensures)
@@ -34,7 +34,7 @@ acceptance-spec =
     next-token-requires
     enum-known-offset
     returns
-    condition-requires
+    counted-requires
     offset-requires
     returns-2
     returns-3)

@@ -7,11 +7,8 @@ use Rattle.hoa_header.proofs.without_transitions.Tie as tie
 empty-requires : tie.Need-empty-requires
 empty-requires c κs = search needs
 
-every-set-requires : tie.Need-every-set-requires
-every-set-requires c κs = search needs
-
 returns : tie.Need-returns
-returns c = unfilled (c .before .before .before .before .before .args .items) (c .before .empty .result) (c .every-set .result) (c .before .empty .ensures) (c .every-set .ensures)
+returns c = unfilled (c .before .before .before .before .args .items) (c .empty .result) (c .empty .ensures)
 
 pub without-transitions-spec : {M : Type 1} → statement M
-without-transitions-spec = tie.close (tie.spec empty-requires every-set-requires returns)
+without-transitions-spec = tie.close (tie.spec empty-requires returns)

@@ -1,7 +1,7 @@
 -- `found` meets its contract.
-use mathlib.Core.Path.{refl}
+use mathlib.Core.Path.{refl, sym, _∙_}
 use Rattle.automaton.specs.Value.{Valid}
-use Rattle.search.specs.Replies.{InRange, Admitted, AskedFor, short-prefix, short-loop, outside, finished, dimensions}
+use Rattle.search.specs.Replies.{InRange, Admitted, AskedFor, InfOfAll, short-prefix, short-loop, outside, finished, dimensions, acceptance}
 use Rattle.meaning.specs.TestLaws.{fails-not, passes-so}
 use Rattle.search.proofs.Laws.{untouched, compared}
 use borrow.Author.Needs.{needs}
@@ -24,6 +24,9 @@ admitted c = record { in-range = in-range (c .before .before .before); valid = v
 
 asked-for : (c : tie.Else6) → let s = c .before .before .before .before .before .before .before .before .before .before .before .args in AskedFor (s .search) (s .table)
 asked-for c = passes-so (c .before .asked-for .ensures) (c .if6 .left)
+
+inf-of-all : (c : tie.Else7) → InfOfAll (c .before .before .before .before .before .before .before .before .before .before .before .before .before .before .args .table)
+inf-of-all c = c .if7 .left ∙ c .before .before .every-set .ensures
 
 refused-requires : tie.Need-refused-requires
 refused-requires c κs = search needs
@@ -71,6 +74,17 @@ returns-6 : tie.Need-returns-6
 returns-6 c =
     dimensions (room (c .before .before .before .before .before .before .before .before)) (admitted (c .before .before .before)) (fails-not (c .before .before .asked-for .ensures) (c .before .if6 .taken)) (untouched (c .refused5 .ensures))
 
+every-set-requires : tie.Need-every-set-requires
+every-set-requires c κs = search needs
+
+refused-requires-6 : tie.Need-refused-requires-6
+refused-requires-6 c κs = search needs
+
+returns-7 : tie.Need-returns-7
+returns-7 c =
+    let e = c .before .before .before .before in
+    acceptance (room (e .before .before .before .before .before .before .before)) (admitted (e .before .before)) (asked-for e) (λ i. c .before .if7 .taken (i ∙ sym (c .before .before .before .every-set .ensures))) (untouched (c .refused6 .ensures))
+
 compare-requires : tie.Need-compare-requires
 compare-requires c κs = search needs
 
@@ -83,10 +97,11 @@ same-length c = search needs
 same-length-2 : tie.Need-same-length-2
 same-length-2 c = search needs
 
-returns-7 : tie.Need-returns-7
-returns-7 c =
-    let e = c .before .before .before .before .before .before .before .before .before in
-    compared (room (e .before .before .before .before .before .before .before)) (admitted (e .before .before)) (asked-for e) (c .before .before .before .before .before .compare .ensures) (c .judge .ensures)
+returns-8 : tie.Need-returns-8
+returns-8 c =
+    let i = c .before .before .before .before .before .before .before .before .before in
+    let e = i .before .before .before in
+    compared (room (e .before .before .before .before .before .before .before)) (admitted (e .before .before)) (asked-for e) (inf-of-all i) (c .before .before .before .before .before .compare .ensures) (c .judge .ensures)
 
 pub found-spec : {M : Type 1} → statement M
 found-spec =
@@ -106,8 +121,11 @@ found-spec =
     asked-for-requires
     refused-requires-5
     returns-6
+    every-set-requires
+    refused-requires-6
+    returns-7
     compare-requires
     judge-requires
     same-length
     same-length-2
-    returns-7)
+    returns-8)

@@ -8,8 +8,8 @@ use Rattle.hoa_formulas.proofs.terms.numbered.Tie as tie
 enum-known-over : tie.Need-enum-known-over
 enum-known-over c = search needs
 
-declared-requires : tie.Need-declared-requires
-declared-requires c κs = search needs
+proposition-requires : tie.Need-proposition-requires
+proposition-requires c κs = search needs
 
 enum-known-over-2 : tie.Need-enum-known-over-2
 enum-known-over-2 c = search needs
@@ -20,7 +20,7 @@ offset-requires c κs = search needs
 returns : tie.Need-returns
 returns c =
     let a = c .before .before .before .before .before .args in
-    digit-proposition (now (a .text)) (a .at) (c .before .before .before .before .before .pre) _ _ (c .before .before .over .given .1) (c .declared .result) (c .declared .ensures)
+    digit-proposition (now (a .text)) (a .at) (c .before .before .before .before .before .pre) _ _ (c .before .before .over .given .1) (c .proposition .result) (c .proposition .ensures)
 
 returns-2 : tie.Need-returns-2
 returns-2 c =
@@ -32,7 +32,7 @@ numbered-spec =
     tie.close
     (tie.spec
     enum-known-over
-    declared-requires
+    proposition-requires
     enum-known-over-2
     offset-requires
     returns

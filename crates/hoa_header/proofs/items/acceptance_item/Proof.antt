@@ -33,7 +33,7 @@ returns-2 c =
 returns-3 : tie.Need-returns-3
 returns-3 c =
     let a = c .before .before .before .before .before .before .args in
-    sets-kept (now (a .text)) (a .name) (a .at) (a .items) (c .before .before .before .before .if1 .left) (c .before .before .before .acceptance .result) (c .before .before .before .acceptance .ensures) _ _ (c .before .count .given .1)
+    sets-kept (now (a .text)) (a .name) (a .at) (a .items) (c .before .before .before .before .if1 .left) (c .before .before .before .acceptance .result) (c .before .before .before .acceptance .ensures) _ _ _ (c .before .count .given .1)
 
 pub acceptance-item-spec : {M : Type 1} → statement M
 acceptance-item-spec =

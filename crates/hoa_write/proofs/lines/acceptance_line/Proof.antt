@@ -3,7 +3,7 @@ use native.Mathlib.Omega.{arith}
 use borrow.Author.Needs.{needs}
 use lib.ListN.{length, length-append}
 use Rattle.decimal.specs.Writing.{roomy-then, room-left}
-use Rattle.hoa_text.specs.Written.{conditionOf}
+use Rattle.hoa_text.specs.Written.{conditionText}
 use Rattle.hoa_write.proofs.lines.acceptance_line.Statement.{statement}
 use Rattle.hoa_write.proofs.lines.acceptance_line.Tie as tie
 
@@ -22,7 +22,7 @@ condition-requires : tie.Need-condition-requires
 condition-requires c κs =
     let s = c .before .before .before .before .before .before .before .before .before .before .before in
     let h = simp length-append at (s .pre .1) in
-    (s .pre .0 .sets-le, room-left (roomy-then (λ h. c .before .before .before .before .before .before .before .item .ensures) (c .before .before .before .byte .ensures .roomy) (simp length-append (omega arith))) (length (conditionOf (s .args .a .sets))) (simp length-append (omega arith)))
+    (s .pre .0 .sets-le, room-left (roomy-then (λ h. c .before .before .before .before .before .before .before .item .ensures) (c .before .before .before .byte .ensures .roomy) (simp length-append (omega arith))) (length (conditionText (s .args .a .sets) (s .args .a .acceptance))) (simp length-append (omega arith)))
 
 byte-requires-2 : tie.Need-byte-requires-2
 byte-requires-2 c κs = search needs

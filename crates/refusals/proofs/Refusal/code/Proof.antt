@@ -12,11 +12,14 @@ enum-known-self-2 c = search needs
 enum-known-self-3 : tie.Need-enum-known-self-3
 enum-known-self-3 c = search needs
 
+enum-told : tie.Need-enum-told
+enum-told c = search needs
+
 enum-known-self-4 : tie.Need-enum-known-self-4
 enum-known-self-4 c = search needs
 
-enum-told : tie.Need-enum-told
-enum-told c = search needs
+enum-told-2 : tie.Need-enum-told-2
+enum-told-2 c = search needs
 
 enum-known-self-5 : tie.Need-enum-known-self-5
 enum-known-self-5 c = search needs
@@ -93,6 +96,9 @@ returns-14 c = cc
 returns-15 : tie.Need-returns-15
 returns-15 c = cc
 
+returns-16 : tie.Need-returns-16
+returns-16 c = cc
+
 pub code-spec : {M : Type 1} → statement M
 code-spec =
     tie.close
@@ -100,8 +106,9 @@ code-spec =
     enum-known-self
     enum-known-self-2
     enum-known-self-3
-    enum-known-self-4
     enum-told
+    enum-known-self-4
+    enum-told-2
     enum-known-self-5
     enum-known-self-6
     enum-known-self-7
@@ -126,4 +133,5 @@ code-spec =
     returns-12
     returns-13
     returns-14
-    returns-15)
+    returns-15
+    returns-16)
