@@ -1,14 +1,16 @@
 -- What a call is answered, by what was judged before it.
-use mathlib.Core.Path.{_≡_, sym, subst}
+use mathlib.Core.Path.{_≡_, sym, ap, _∙_, subst}
 use Rattle.automaton.specs.declared.Automaton.{Automaton}
 use Rattle.refusals.specs.declared.Refusal.{Refusal}
 use Rattle.clause_sizes.specs.declared.Target.{Target}
 use Rattle.clause_sizes.specs.declared.Sizes.{Sizes}
-use Rattle.clause_sizes.specs.declared.Sized.{Sized}
-use Rattle.clause_sizes.specs.declared.Sized.the-variants.{Of, Refused}
+use Rattle.clause_sizes.specs.declared.Sized.the-variants as sized
+use Rattle.clause_sizes.specs.Numbers.{lastVariable}
 use Rattle.clause_sizes.specs.Sizes.{Sizing, Fitting, outside, dimensions, past-sets}
 use Rattle.clause_sizes.specs.Limits.{sizes-fit}
 use Rattle.solver_text.specs.declared.Reader.{Reader}
+use Rattle.solver_text.specs.declared.call.Variables.{Variables}
+use Rattle.solver_text.specs.declared.call.File.the-variants.{Of, Refused}
 use Rattle.solver_text.specs.declared.Reply.{Reply}
 use Rattle.solver_text.specs.Calls.{InRange, Called, refusal}
 use Rattle.solver_text.specs.Answered.{called, called-text}
@@ -16,15 +18,17 @@ use Rattle.solver_text.specs.Objection.{state, call, Judged}
 
 module _ (a : Automaton) (τ : Target) (r : Reader) where
   -- a state in its ranges, and what was measured
-  pub judged : InRange r → (x : Sized) → Sizing a τ x → Judged a τ r x
-  judged h (Of z) (v, d, e) = (h, v, d, e)
-  judged h (Refused f) s = call h s
+  pub sizing-fits : {z : Sizes} → Sizing a τ (sized.Of z) → Fitting z
+  sizing-fits (v, d, e) = subst Fitting (sym e) (sizes-fit v d)
 
-  pub judged-fits : {z : Sizes} → Judged a τ r (Of z) → Fitting z
-  judged-fits (h, v, d, e) = subst Fitting (sym e) (sizes-fit v d)
+  pub judged : InRange r → {z : Sizes} → Sizing a τ (sized.Of z) → {file : Variables} → (file .last ≡ lastVariable z) × (file .kept ≡ z .marks) → Judged a τ r (Of file)
+  judged h (v, d, e) (l, k) = (h, v, d, l ∙ ap lastVariable e, k ∙ ap (λ (z : Sizes). z .marks) e)
 
-  pub called-read : {z : Sizes} {read e : Reply} → Judged a τ r (Of z) → e ≡ read → Called a τ r read e
-  called-read (h, v, d, s) q = called-text v h d q
+  pub judged-refused : InRange r → {f : Refusal} → Sizing a τ (sized.Refused f) → Judged a τ r (Refused f)
+  judged-refused h s = call h s
+
+  pub called-read : {file : Variables} {read e : Reply} → Judged a τ r (Of file) → e ≡ read → Called a τ r read e
+  called-read (h, v, d, l, k) q = called-text v h d q
 
   pub called-refused : {f : Refusal} {read e : Reply} → Judged a τ r (Refused f) → e ≡ refusal f r → Called a τ r read e
   called-refused (state k) q = called (λ v. q) (λ s. q) (λ v s z. absurd (k s)) (λ v s d o. q) (λ v s p. absurd (k s))

@@ -7,11 +7,11 @@ use Rattle.refusals.specs.declared.Refusal.{Refusal}
 use Rattle.refusals.specs.declared.Refusal.the-variants.{Outside}
 use Rattle.automaton.specs.Value.{Valid}
 use Rattle.clause_sizes.specs.declared.Target.{Target}
-use Rattle.clause_sizes.specs.Targets.{Proper}
-use Rattle.clause_sizes.specs.declared.Sized.{Sized}
-use Rattle.clause_sizes.specs.declared.Sized.the-variants.{Of, Refused}
-use Rattle.clause_sizes.specs.Sizes.{Refuses, sizesOf}
+use Rattle.clause_sizes.specs.Targets.{Proper, last, kept}
+use Rattle.clause_sizes.specs.Sizes.{Refuses}
 use Rattle.solver_text.specs.declared.Reader.{Reader}
+use Rattle.solver_text.specs.declared.call.File.{File}
+use Rattle.solver_text.specs.declared.call.File.the-variants.{Of, Refused}
 use Rattle.solver_text.specs.Calls.{InRange}
 
 -- what speaks against reading
@@ -19,7 +19,7 @@ pub data Objects (a : Automaton) (τ : Target) (r : Reader) : Refusal → Type 0
   state : ¬ InRange r → Objects a τ r Outside
   call : {f : Refusal} {c : Option Code} → InRange r → Refuses a τ f c → Objects a τ r f
 
--- the sizes of the file, or the objection
-abbrev pub Judged : Automaton → Target → Reader → Sized → Type 0
-Judged a τ r (Of z) = InRange r × Valid a × Proper τ × (z ≡ sizesOf a τ)
+-- the numbers of the file, or the objection
+abbrev pub Judged : Automaton → Target → Reader → File → Type 0
+Judged a τ r (Of file) = InRange r × Valid a × Proper τ × (file .last ≡ last a τ) × (file .kept ≡ kept a τ)
 Judged a τ r (Refused f) = Objects a τ r f

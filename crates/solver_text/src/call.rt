@@ -19,14 +19,29 @@ ghost use Rattle.clause_sizes.specs.Numbers.{lastVariable};
 ghost use Rattle.solver_text.specs.Calls.{InRange, refusal};
 ghost use Rattle.solver_text.specs.Objection.{Judged};
 
-// 4 for the state or the automaton, 8, 4 for the named acceptance; or the sizes of the file.
-pub fn judge(reader: Reader, reference: Automaton, target: Target) -> Sized
+// The last variable of the file, and the last step or mark variable.
+pub struct Variables {
+    pub last: u32,
+    pub kept: u32,
+}
+
+// What a piece is read with. Two numbers, and not all sizes, so that the loop over its bytes has registers to spare.
+pub enum File {
+    Of(Variables),
+    Refused(Refusal),
+}
+
+// 4 for the state or the automaton, 8, 4 for the named acceptance; or the numbers of the file.
+pub fn judge(reader: Reader, reference: Automaton, target: Target) -> File
     ensures { λ r. ⌜ Judged reference target reader r ⌝ }
 {
     if !in_range(reader) {
-        return Sized::Refused(Refusal::Outside);
+        return File::Refused(Refusal::Outside);
     }
-    measure(reference, target)
+    match measure(reference, target) {
+        Sized::Of(z) => File::Of(variables_of(z)),
+        Sized::Refused(x) => File::Refused(x),
+    }
 }
 
 pub fn refused(x: Refusal, reader: Reader) -> Reply
@@ -65,13 +80,7 @@ fn entries_fit(named: &[u8; Reader::SLOTS]) -> bool
     true
 }
 
-// The last variable of the file, and the last step or mark variable.
-pub struct Variables {
-    pub last: u32,
-    pub kept: u32,
-}
-
-pub fn variables_of(z: Sizes) -> Variables
+fn variables_of(z: Sizes) -> Variables
     requires { ⌜ Fitting z ⌝ }
     ensures { λ r. ⌜ (r .last ≡ lastVariable z) × (r .kept ≡ z .marks) ⌝ }
 {

@@ -1,7 +1,7 @@
 // The reader of solver text: a state that goes from piece to piece, by value.
 use automaton::Automaton;
+use call::File;
 use call::Variables;
-use clause_sizes::Sized;
 use clause_sizes::Target;
 use refusals::Refusal;
 use solver_scan::Place;
@@ -60,8 +60,8 @@ impl Reader {
         ensures { λ e. ⌜ Called reference target self (told (run (last reference target) (kept reference target) self (now (piece .entry)))) e ⌝ }
     {
         match call::judge(self, reference, target) {
-            Sized::Of(z) => read_piece(self, piece, call::variables_of(z)),
-            Sized::Refused(x) => call::refused(x, self),
+            File::Of(file) => read_piece(self, piece, file),
+            File::Refused(x) => call::refused(x, self),
         }
     }
 
@@ -70,8 +70,8 @@ impl Reader {
         ensures { λ e. ⌜ Called reference target self (told (end (last reference target) (kept reference target) self)) e ⌝ }
     {
         match call::judge(self, reference, target) {
-            Sized::Of(z) => end_text(self, call::variables_of(z)),
-            Sized::Refused(x) => call::refused(x, self),
+            File::Of(file) => end_text(self, file),
+            File::Refused(x) => call::refused(x, self),
         }
     }
 }

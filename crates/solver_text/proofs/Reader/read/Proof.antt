@@ -1,12 +1,10 @@
 -- `Reader::read` meets its contract.
-use mathlib.Core.Path.{ap, ap₂, subst, _∙_}
+use mathlib.Core.Path.{ap₂, subst, _∙_}
 use Prim.Native.Nat.{ℕ}
 use denote.Ref.{now}
-use Rattle.clause_sizes.specs.declared.Sizes.{Sizes}
-use Rattle.clause_sizes.specs.Numbers.{lastVariable}
 use Rattle.solver_text.specs.Machine.{told, run}
 use Rattle.solver_text.specs.Objection.{Judged}
-use Rattle.solver_text.proofs.CallLaws.{judged-fits, called-read, called-refused}
+use Rattle.solver_text.proofs.CallLaws.{called-read, called-refused}
 use borrow.Author.Needs.{needs}
 use Rattle.solver_text.proofs.Reader.read.Statement.{statement}
 use Rattle.solver_text.proofs.Reader.read.Tie as tie
@@ -14,13 +12,8 @@ use Rattle.solver_text.proofs.Reader.read.Tie as tie
 judge-requires : tie.Need-judge-requires
 judge-requires c κs = search needs
 
-enum-known-z : tie.Need-enum-known-z
-enum-known-z c = search needs
-
-variables-of-requires : tie.Need-variables-of-requires
-variables-of-requires c κs =
-    let a = c .before .before .before .before .before .args in
-    judged-fits _ _ _ (subst (Judged (a .reference) (a .target) (a .self)) (c .before .z .given .1) (c .before .before .before .judge .ensures))
+enum-known-file : tie.Need-enum-known-file
+enum-known-file c = search needs
 
 read-piece-requires : tie.Need-read-piece-requires
 read-piece-requires c κs = search needs
@@ -33,11 +26,9 @@ refused-requires c κs = search needs
 
 returns : tie.Need-returns
 returns c =
-    let a = c .before .before .before .before .before .before .before .args in
-    let j = subst (Judged (a .reference) (a .target) (a .self)) (c .before .before .before .z .given .1) (c .before .before .before .before .before .judge .ensures) in
-    let f = c .before .variables-of .ensures in
-    called-read _ _ _ j
-    (c .read-piece .ensures ∙ ap₂ (λ (x y : ℕ). told (run x y (a .self) (now (a .piece)))) (f .0 ∙ ap lastVariable (j .3)) (f .1 ∙ ap (λ (z : Sizes). z .marks) (j .3)))
+    let a = c .before .before .before .before .before .before .args in
+    let j = subst (Judged (a .reference) (a .target) (a .self)) (c .before .before .file .given .1) (c .before .before .before .before .judge .ensures) in
+    called-read _ _ _ j (c .read-piece .ensures ∙ ap₂ (λ (x y : ℕ). told (run x y (a .self) (now (a .piece)))) (j .3) (j .4))
 
 returns-2 : tie.Need-returns-2
 returns-2 c =
@@ -45,4 +36,4 @@ returns-2 c =
     called-refused _ _ _ (subst (Judged (a .reference) (a .target) (a .self)) (c .before .before .x .given .1) (c .before .before .before .before .judge .ensures)) (c .refused .ensures)
 
 pub read-spec : {M : Type 1} → statement M
-read-spec = tie.close (tie.spec judge-requires enum-known-z variables-of-requires read-piece-requires enum-known-x refused-requires returns returns-2)
+read-spec = tie.close (tie.spec judge-requires enum-known-file read-piece-requires enum-known-x refused-requires returns returns-2)
