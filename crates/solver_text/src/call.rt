@@ -25,7 +25,7 @@ pub struct Variables {
     pub kept: u32,
 }
 
-// What a piece is read with. Two numbers, and not all sizes, so that the loop over its bytes has registers to spare.
+// What a piece is read with: two numbers, and not all sizes, since the loop over its bytes was measured to be faster so.
 pub enum File {
     Of(Variables),
     Refused(Refusal),
