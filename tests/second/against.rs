@@ -1,5 +1,6 @@
 //! The first program beside this one: generated inputs are given to both, and any difference is told.
 
+use crate::automaton::{List, Profile};
 use crate::check::*;
 use crate::generate::{pair, Random};
 use crate::generate_hoa::hoa_text;
@@ -16,7 +17,8 @@ use std::thread;
 const WORKERS: usize = 2;
 
 /// Of ten cases four are HOA texts, and one each is a comparison, a clause file, a solver text, a
-/// search, and a clause file and a solver text for a candidate's acceptance that is named.
+/// search, and a clause file and a solver text for a candidate's acceptance that is named. Of the clause
+/// files and solver texts one half are those of the second list.
 const KINDS: usize = 10;
 
 /// Runs `count` cases; the differences, with the folders in which their inputs are kept.
@@ -80,30 +82,29 @@ impl Run<'_> {
 
     fn clause_file(&self, random: &mut Random) -> io::Result<Checked> {
         let case = solver_case(random);
-        let sizes = [case.n.to_string(), case.m.to_string()];
-        self.clauses_of("hoa_clauses", &sizes, &case)
+        self.clauses_of("hoa_clauses", &sizes(random, &case.profile), &case)
     }
 
     fn named_clause_file(&self, random: &mut Random) -> io::Result<Checked> {
         let case = profile_case(random);
-        self.clauses_of("hoa_profile", &[vec!["clauses".to_string()], profile(&case)].concat(), &case)
+        let arguments = [vec!["clauses".to_string()], profile(&case.profile)].concat();
+        self.clauses_of("hoa_profile", &arguments, &case)
     }
 
     fn clauses_of(&self, program: &str, arguments: &[String], case: &SolverCase) -> io::Result<Checked> {
         let reference = hoa::write(&case.reference);
         let printed = self.printed(program, arguments, &reference)?;
-        Ok(check_clauses(&reference, case.n as u64, case.m as u64, case.named, &printed))
+        Ok(check_clauses(&reference, case.profile, &printed))
     }
 
     fn decoder(&self, random: &mut Random) -> io::Result<Checked> {
         let case = solver_case(random);
-        let sizes = [case.n.to_string(), case.m.to_string()];
-        self.decoded_of("hoa_decode", &[], &sizes, &case)
+        self.decoded_of("hoa_decode", &[], &sizes(random, &case.profile), &case)
     }
 
     fn named_decoder(&self, random: &mut Random) -> io::Result<Checked> {
         let case = profile_case(random);
-        self.decoded_of("hoa_profile", &["decode".to_string()], &profile(&case), &case)
+        self.decoded_of("hoa_profile", &["decode".to_string()], &profile(&case.profile), &case)
     }
 
     /// The reference's name stands between the arguments.
@@ -117,7 +118,7 @@ impl Run<'_> {
         let reference = hoa::write(&case.reference);
         let name = self.kept("reference.hoa", &reference)?;
         let printed = self.printed(program, &[before, &[name], behind].concat(), &case.text)?;
-        Ok(check_decode(&reference, case.n as u64, case.m as u64, case.named, &case.text, &printed))
+        Ok(check_decode(&reference, case.profile, &case.text, &printed))
     }
 
     fn search(&self, random: &mut Random) -> io::Result<Checked> {
@@ -157,8 +158,23 @@ impl Run<'_> {
     }
 }
 
+/// Words that name the first list, for the programs that take any.
+const NOT_2: [&str; 12] = ["1", "1", "1", "0", "3", "02", "22", "-2", "+2", "2x", "x", "4294967298"];
+
+/// The arguments that name a file for Inf of all sets: the sizes, and the clause list, which is not always
+/// named where it is the first.
+fn sizes(random: &mut Random, profile: &Profile) -> Vec<String> {
+    let mut words = vec![profile.n.to_string(), profile.m.to_string()];
+    match profile.list {
+        List::Second => words.push(profile.list.word().to_string()),
+        List::First if random.one_in(2) => words.push(random.pick(&NOT_2).to_string()),
+        List::First => {}
+    }
+    words
+}
+
 /// The arguments that name a file: the sizes, the clause list, the acceptance, and where marks stand.
-fn profile(case: &SolverCase) -> Vec<String> {
-    let words = [case.n.to_string(), case.m.to_string(), "1".to_string(), case.acceptance_word()];
-    words.into_iter().chain(["transitions".to_string()]).collect()
+fn profile(profile: &Profile) -> Vec<String> {
+    let (n, m) = (profile.n.to_string(), profile.m.to_string());
+    vec![n, m, profile.list.word().to_string(), profile.acceptance.word(), "transitions".to_string()]
 }

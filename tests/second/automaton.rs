@@ -79,6 +79,11 @@ impl Automaton {
         self.table[state][letter]
     }
 
+    /// For each state the destinations of its transitions, by letter.
+    pub fn destinations(&self) -> Vec<Vec<usize>> {
+        self.table.iter().map(|row| row.iter().map(|edge| edge.to).collect()).collect()
+    }
+
     /// Whether a run is accepting that meets just these sets infinitely often.
     pub fn takes(&self, met: u8) -> bool {
         says_yes(self.acceptance, met as usize)
@@ -135,6 +140,69 @@ pub enum Named {
     Number(u64),
 }
 
+impl Named {
+    /// The argument that names it.
+    pub fn word(self) -> String {
+        match self {
+            Named::InfOfAll => "all".to_string(),
+            Named::Number(number) => number.to_string(),
+        }
+    }
+}
+
+/// The clause lists: that of document 01, and the one of document 02, E6, with fewer paths.
+#[derive(Clone, Copy, PartialEq, Eq, Debug)]
+pub enum List {
+    First,
+    Second,
+}
+
+impl List {
+    /// "the caller names which (the clause program by a third argument 2, else the first)"
+    pub fn of_argument(word: &str) -> List {
+        match word {
+            "2" => List::Second,
+            _ => List::First,
+        }
+    }
+
+    pub fn word(self) -> &'static str {
+        match self {
+            List::First => "1",
+            List::Second => "2",
+        }
+    }
+}
+
+/// What the caller names for a clause file: the sizes of the candidates, their acceptance, and the list.
+#[derive(Clone, Copy, PartialEq, Eq, Debug)]
+pub struct Profile {
+    pub n: u64,
+    pub m: u64,
+    pub acceptance: Named,
+    pub list: List,
+}
+
+impl Profile {
+    /// "n outside 1 to 8 or m outside 0 to 4": 8, n, m. "a yes past m: 4, 0, 0, after 8" (document
+    /// 02, E3)
+    pub fn judged(&self) -> Result<Candidates, Refusal> {
+        if self.n < 1 || self.n > MAX_CANDIDATE_STATES as u64 || self.m > MAX_SETS as u64 {
+            return Err(Refusal::new(8, self.n, self.m));
+        }
+        let (n, m) = (self.n as usize, self.m as usize);
+        match self.acceptance {
+            Named::InfOfAll => Ok(Candidates::with_inf_of_all(n, m)),
+            Named::Number(number) if number >> (1 << m) == 0 => Ok(Candidates { n, m, acceptance: number as u16 }),
+            Named::Number(_) => Err(Refusal::new(4, 0, 0)),
+        }
+    }
+
+    pub fn with_inf_of_all(n: u64, m: u64, list: List) -> Profile {
+        Profile { n, m, acceptance: Named::InfOfAll, list }
+    }
+}
+
 /// The candidates of which a clause file speaks: n states, m sets, and the acceptance they carry.
 #[derive(Clone, Copy, PartialEq, Eq, Debug)]
 pub struct Candidates {
@@ -144,20 +212,6 @@ pub struct Candidates {
 }
 
 impl Candidates {
-    /// "n outside 1 to 8 or m outside 0 to 4": 8, n, m. "a yes past m: 4, 0, 0, after 8" (document
-    /// 02, E3)
-    pub fn judged(n: u64, m: u64, named: Named) -> Result<Candidates, Refusal> {
-        if n < 1 || n > MAX_CANDIDATE_STATES as u64 || m > MAX_SETS as u64 {
-            return Err(Refusal::new(8, n, m));
-        }
-        let (n, m) = (n as usize, m as usize);
-        match named {
-            Named::InfOfAll => Ok(Candidates::with_inf_of_all(n, m)),
-            Named::Number(number) if number >> (1 << m) == 0 => Ok(Candidates { n, m, acceptance: number as u16 }),
-            Named::Number(_) => Err(Refusal::new(4, 0, 0)),
-        }
-    }
-
     pub fn with_inf_of_all(n: usize, m: usize) -> Candidates {
         Candidates { n, m, acceptance: inf_of_all(m) }
     }
@@ -217,7 +271,7 @@ mod tests {
     #[test]
     fn sizes_at_the_limits() {
         // "n = 8 passes, 9 and 0 give 8"
-        let judged = |n: u64, m: u64| Candidates::judged(n, m, Named::InfOfAll);
+        let judged = |n: u64, m: u64| Profile::with_inf_of_all(n, m, List::First).judged();
         assert_eq!(judged(8, 0), Ok(Candidates { n: 8, m: 0, acceptance: 1 }));
         assert_eq!(judged(9, 0), Err(Refusal::new(8, 9, 0)));
         assert_eq!(judged(0, 0), Err(Refusal::new(8, 0, 0)));
@@ -227,16 +281,26 @@ mod tests {
 
     #[test]
     fn a_yes_past_the_sets() {
+        let judged = |n: u64, m: u64, number: u64| {
+            Profile { n, m, acceptance: Named::Number(number), list: List::First }.judged()
+        };
         for (m, first_past) in [(0, 2), (1, 4), (2, 16), (3, 256), (4, 65_536)] {
-            let judged = |number: u64| Candidates::judged(1, m, Named::Number(number));
             let acceptance = (first_past - 1) as u16;
-            assert_eq!(judged(first_past - 1), Ok(Candidates { n: 1, m: m as usize, acceptance }));
+            assert_eq!(judged(1, m, first_past - 1), Ok(Candidates { n: 1, m: m as usize, acceptance }));
             for past in [first_past, first_past + 1, u64::MAX, 1 << 63] {
-                assert_eq!(judged(past), Err(Refusal::new(4, 0, 0)));
+                assert_eq!(judged(1, m, past), Err(Refusal::new(4, 0, 0)));
             }
         }
         // "after 8"
-        assert_eq!(Candidates::judged(9, 0, Named::Number(2)), Err(Refusal::new(8, 9, 0)));
-        assert_eq!(Candidates::judged(1, 5, Named::Number(u64::MAX)), Err(Refusal::new(8, 1, 5)));
+        assert_eq!(judged(9, 0, 2), Err(Refusal::new(8, 9, 0)));
+        assert_eq!(judged(1, 5, u64::MAX), Err(Refusal::new(8, 1, 5)));
+    }
+
+    #[test]
+    fn one_word_names_the_second_list() {
+        assert_eq!(List::of_argument("2"), List::Second);
+        for word in ["1", "", "0", "02", "+2", "2 ", " 2", "2.0", "22", "3", "x", "two", "18446744073709551618"] {
+            assert_eq!(List::of_argument(word), List::First, "{word:?}");
+        }
     }
 }

@@ -1,6 +1,6 @@
 //! Whether what was printed for an input is right, byte for byte.
 
-use crate::automaton::{Candidates, Named, Refusal};
+use crate::automaton::{Profile, Refusal};
 use crate::clauses::File;
 use crate::compare::compare;
 use crate::decode::decode;
@@ -22,11 +22,11 @@ pub fn check_normalize(text: &[u8], printed: &[u8]) -> Checked {
     unless_refused(hoa::read(text), printed, |given| equal(printed, &hoa::write(&given)))
 }
 
-pub fn check_clauses(reference: &[u8], n: u64, m: u64, named: Named, printed: &[u8]) -> Checked {
-    let due = hoa::read(reference).and_then(|reference| Ok((reference, Candidates::judged(n, m, named)?)));
+pub fn check_clauses(reference: &[u8], profile: Profile, printed: &[u8]) -> Checked {
+    let due = hoa::read(reference).and_then(|reference| Ok((reference, profile.judged()?)));
     unless_refused(due, printed, |(reference, of)| {
         let mut file = Vec::new();
-        File::new(&reference, of).print(&mut file).map_err(|error| error.to_string())?;
+        File::new(&reference, of, profile.list).print(&mut file).map_err(|error| error.to_string())?;
         equal(printed, &file)
     })
 }
@@ -36,8 +36,8 @@ pub fn check_compare(first: &[u8], second: &[u8], printed: &[u8]) -> Checked {
     unless_refused(due, printed, |comparison| equal(printed, comparison_text(&comparison).as_bytes()))
 }
 
-pub fn check_decode(reference: &[u8], n: u64, m: u64, named: Named, text: &[u8], printed: &[u8]) -> Checked {
-    let due = hoa::read(reference).and_then(|reference| decode(&reference, n, m, named, text));
+pub fn check_decode(reference: &[u8], profile: Profile, text: &[u8], printed: &[u8]) -> Checked {
+    let due = hoa::read(reference).and_then(|reference| decode(&reference, profile, text));
     unless_refused(due, printed, |decoded| equal(printed, &decoded_text(&decoded)))
 }
 
@@ -61,7 +61,7 @@ fn equal(printed: &[u8], due: &[u8]) -> Checked {
 #[cfg(test)]
 mod tests {
     use super::*;
-    use crate::automaton::{inf_of_all, Automaton, Transition};
+    use crate::automaton::{inf_of_all, Automaton, List, Transition};
 
     fn one_state(sets: usize, names: &[&str], marks: &[u8]) -> Vec<u8> {
         let row = marks.iter().map(|&marks| Transition { to: 0, marks }).collect();
@@ -97,7 +97,8 @@ mod tests {
     fn decoder_and_search_give_the_word() {
         // One state and no letter but 0; the answer states a table that never meets its set.
         let (reference, answer) = (one_state(1, &[], &[1]), b"s SATISFIABLE\nv 1 0\n");
-        let decoded = |printed: &str| check_decode(&reference, 1, 1, Named::InfOfAll, answer, printed.as_bytes());
+        let profile = Profile::with_inf_of_all(1, 1, List::First);
+        let decoded = |printed: &str| check_decode(&reference, profile, answer, printed.as_bytes());
         assert_eq!(decoded("refused 12 0 1\nprefix\nloop 0\n"), Ok(()));
         assert!(decoded("refused 12 0 2\nprefix\nloop 0 0\n").is_err());
         assert!(decoded("refused 12 0 1\n").is_err());
@@ -106,5 +107,29 @@ mod tests {
         assert_eq!(told("refused 12 0 2\n"), Ok(()));
         assert!(told("refused 12 0 1\n").is_err());
         assert!(told("ask 1 1\n").is_err());
+    }
+
+    #[test]
+    fn each_list_has_its_own_file() {
+        // 0 leads to 1, which stays; neither has sets. The step is 1; the paths are 2 to 5, or 2 and 3.
+        let reference = b"HOA: v1 States: 2 Start: 0 Acceptance: 0 t --BODY-- State: 0 1 State: 1 1 --END--";
+        let first = "p cnf 5 8\n1 0\n2 0\n-2 -1 5 0\n-5 -1 5 0\n-2 -1 3 0\n-3 -1 3 0\n-4 -1 5 0\n-5 -1 5 0\n";
+        let second = "p cnf 3 5\n1 0\n2 0\n-2 -1 3 0\n-3 -1 3 0\n-3 -1 3 0\n";
+        let checked = |list: List, printed: &str| {
+            check_clauses(reference, Profile::with_inf_of_all(1, 0, list), printed.as_bytes())
+        };
+        assert_eq!(checked(List::First, first), Ok(()));
+        assert_eq!(checked(List::Second, second), Ok(()));
+        assert!(checked(List::First, second).is_err());
+        assert!(checked(List::Second, first).is_err());
+        let decoded = |list: List, printed: &str| {
+            let text = b"s SATISFIABLE\nv 1 -4 0";
+            check_decode(reference, Profile::with_inf_of_all(1, 0, list), text, printed.as_bytes())
+        };
+        let table = "HOA: v1\nStates: 1\nStart: 0\nAcceptance: 0 t\n--BODY--\nState: 0\n[t] 0\n--END--\n";
+        assert_eq!(decoded(List::First, table), Ok(()));
+        assert_eq!(decoded(List::Second, "refused 10 18 0\n"), Ok(()));
+        assert!(decoded(List::First, "refused 10 18 0\n").is_err());
+        assert!(decoded(List::Second, table).is_err());
     }
 }

@@ -1,55 +1,11 @@
-//! The clause list of document 01: variables, clauses in their order, the header, DIMACS lines.
+//! The clause lists of documents 01 and 02: clauses in their order, the header, DIMACS lines.
 
 use crate::automaton::*;
+use crate::numbering::{pairs, Numbering};
 use std::io::{self, Write};
 
-/// The sizes that number the variables: n, m of the candidate, r, s of the reference, L.
-#[derive(Clone, Copy, Debug)]
-pub struct Numbering {
-    pub n: usize,
-    pub m: usize,
-    pub r: usize,
-    pub s: usize,
-    pub letters: usize,
-}
-
-impl Numbering {
-    pub fn new(reference: &Automaton, n: usize, m: usize) -> Numbering {
-        Numbering { n, m, r: reference.states(), s: reference.sets, letters: reference.letters() }
-    }
-
-    /// "step(q,l,p): 1 + (qL + l)n + p."
-    pub fn step(&self, q: usize, l: usize, p: usize) -> usize {
-        1 + (q * self.letters + l) * self.n + p
-    }
-
-    pub fn steps(&self) -> usize {
-        self.n * self.n * self.letters
-    }
-
-    /// "mark(q,l,i,p): after the nnL steps, 1 + ((qL + l)m + i)n + p."
-    pub fn mark(&self, q: usize, l: usize, i: usize, p: usize) -> usize {
-        self.steps() + 1 + ((q * self.letters + l) * self.m + i) * self.n + p
-    }
-
-    /// The last variable that is a step or a mark.
-    pub fn steps_and_marks(&self) -> usize {
-        self.steps() + self.steps() * self.m
-    }
-
-    /// "path(q,u,p,v,I,J): after those nnLm marks, 1 + ((((qr + u)n + p)r + v)2^m + I)2^s + J."
-    pub fn path(&self, (q, u): (usize, usize), (p, v): (usize, usize), i: usize, j: usize) -> usize {
-        let ends = ((q * self.r + u) * self.n + p) * self.r + v;
-        self.steps_and_marks() + 1 + ((((ends << self.m) + i) << self.s) + j)
-    }
-
-    /// V, the last variable.
-    pub fn variables(&self) -> usize {
-        self.steps_and_marks() + ((self.n * self.r * self.n * self.r) << (self.m + self.s))
-    }
-}
-
-/// The clause file of a reference and candidates.
+/// The clause file of a reference and candidates. In the first list all reference states count as one
+/// component, so that nothing is left out.
 pub struct File<'a> {
     reference: &'a Automaton,
     number: Numbering,
@@ -58,32 +14,50 @@ pub struct File<'a> {
 }
 
 impl<'a> File<'a> {
-    pub fn new(reference: &'a Automaton, of: Candidates) -> File<'a> {
-        File { reference, number: Numbering::new(reference, of.n, of.m), acceptance: of.acceptance }
+    pub fn new(reference: &'a Automaton, of: Candidates, list: List) -> File<'a> {
+        File { reference, number: Numbering::new(reference, of.n, of.m, list), acceptance: of.acceptance }
     }
 
     pub fn variables(&self) -> usize {
         self.number.variables()
     }
 
-    /// "C counted beforehand: nL + (1 + nnrL) + n³rrL·2^m·2^s·2^m + the length of group 4."
+    /// "C counted beforehand: nL + (1 + nnrL) + n³rrL·2^m·2^s·2^m + the length of group 4." For the second
+    /// list "C is counted anew" (document 02, E6), since group 3 is shorter too.
     pub fn clauses(&self) -> u64 {
-        let Numbering { n, m, r, s, letters } = self.number;
+        let Numbering { n, r, letters, .. } = self.number;
         let [n, r, letters] = [n, r, letters].map(|size| size as u64);
-        let third = (n.pow(3) * r * r * letters) << (m + s + m);
-        n * letters + (1 + n * n * r * letters) + third + self.fourth_group()
+        n * letters + (1 + n * n * r * letters) + self.third_group() + self.fourth_group()
     }
 
-    /// The condition of group 4 names neither q nor p, so it is counted once for all of them.
+    /// Whether group 3 keeps a clause depends on u, v and l only; the first list keeps all rrL of them.
+    fn third_group(&self) -> u64 {
+        let Numbering { n, m, r, s, letters, .. } = self.number;
+        let of_each = |u: usize| pairs(r, letters).filter(|&(v, l)| self.extends(u, v, l)).count();
+        let kept: usize = (0..r).map(of_each).sum();
+        ((n.pow(3) * kept) as u64) << (m + s + m)
+    }
+
+    /// The conditions of group 4 name neither q nor p, so it is counted once for all of them.
     fn fourth_group(&self) -> u64 {
-        let Numbering { n, m, r, s, letters } = self.number;
+        let Numbering { n, m, r, s, letters, .. } = self.number;
         let mut kept = 0;
-        for (v, l) in pairs(r, letters) {
+        for (v, l) in pairs(r, letters).filter(|&(v, l)| self.stays(v, l)) {
             for (i, j) in pairs(1 << m, 1 << s) {
                 kept += (0..1 << m).filter(|&k| self.closes_wrongly(v, l, i, j, k)).count();
             }
         }
         (n * n * kept) as u64
+    }
+
+    /// "Group 3 keeps a clause only if u, v and w share a component" (document 02, E6)
+    fn extends(&self, u: usize, v: usize, l: usize) -> bool {
+        self.number.share(u, v) && self.stays(v, l)
+    }
+
+    /// "and group 4 only if v and w do"
+    fn stays(&self, v: usize, l: usize) -> bool {
+        self.number.share(v, self.reference.step(v, l).to)
     }
 
     /// "Group 4 keeps a clause where the two acceptances disagree on I∪K and J∪F" (document 02, E3)
@@ -128,11 +102,11 @@ impl<'a> File<'a> {
     /// "By q, p, t, u, v, l, I, J, K: -path(q,u,p,v,I,J), -step(p,l,t), for each i ascending
     /// mark(p,l,i,t), negative if i is in K, then path(q,u,t,w,I∪K,J∪F), w from v."
     fn third<F: FnMut(&[i32]) -> io::Result<()>>(&self, taken: &mut F) -> io::Result<()> {
-        let Numbering { n, m, r, s, letters } = self.number;
+        let Numbering { n, m, r, s, letters, .. } = self.number;
         let mut clause = Vec::new();
         for (q, p) in pairs(n, n) {
             for (t, u) in pairs(n, r) {
-                for (v, l) in pairs(r, letters) {
+                for (v, l) in pairs(r, letters).filter(|&(v, l)| self.extends(u, v, l)) {
                     let Transition { to: w, marks } = self.reference.step(v, l);
                     for (i, j) in pairs(1 << m, 1 << s) {
                         for k in 0..1 << m {
@@ -152,10 +126,10 @@ impl<'a> File<'a> {
     /// "By q, p, v, l, I, J, K", only where the acceptances disagree: "-path(q,w,p,v,I,J),
     /// -step(p,l,q), the marks as in 3 with t = q."
     fn fourth<F: FnMut(&[i32]) -> io::Result<()>>(&self, taken: &mut F) -> io::Result<()> {
-        let Numbering { n, m, r, s, letters } = self.number;
+        let Numbering { n, m, r, s, letters, .. } = self.number;
         let mut clause = Vec::new();
         for (q, p) in pairs(n, n) {
-            for (v, l) in pairs(r, letters) {
+            for (v, l) in pairs(r, letters).filter(|&(v, l)| self.stays(v, l)) {
                 let w = self.reference.step(v, l).to;
                 for (i, j) in pairs(1 << m, 1 << s) {
                     for k in (0..1 << m).filter(|&k| self.closes_wrongly(v, l, i, j, k)) {
@@ -191,18 +165,16 @@ impl<'a> File<'a> {
     }
 }
 
-/// All (a, b) with a below `first` and b below `second`, b faster.
-fn pairs(first: usize, second: usize) -> impl Iterator<Item = (usize, usize)> {
-    (0..first).flat_map(move |a| (0..second).map(move |b| (a, b)))
-}
-
 #[cfg(test)]
 pub mod tests {
     use super::*;
     use crate::compare::{compare, Comparison};
-    use crate::generate::{any_automaton, closure, Random};
+    use crate::components::tests::reaches;
+    use crate::generate::{any_automaton, closure, layered, with_layered_copies, Random};
     use crate::generate_acceptance::random_acceptance;
     use crate::hoa;
+
+    pub const LISTS: [List; 2] = [List::First, List::Second];
 
     pub fn list(file: &File) -> Vec<Vec<i32>> {
         let mut all = Vec::new();
@@ -276,26 +248,33 @@ pub mod tests {
             .all(|clause| clause.iter().any(|literal| values[literal.unsigned_abs() as usize] == (*literal > 0)))
     }
 
-    /// The counts of the header, which the list has, and whether it can be satisfied.
+    /// The counts of the header, which the list has, and whether it can be satisfied. Where the reference
+    /// is one component both lists are the same.
     fn deck(reference: &Automaton, n: usize, m: usize) -> (usize, u64, bool) {
-        deck_of(reference, Candidates::with_inf_of_all(n, m))
+        let of = Candidates::with_inf_of_all(n, m);
+        assert_eq!(printed(reference, of, List::Second), printed(reference, of, List::First));
+        deck_of(reference, of, List::Second)
     }
 
-    fn deck_of(reference: &Automaton, of: Candidates) -> (usize, u64, bool) {
-        let file = File::new(reference, of);
+    fn deck_of(reference: &Automaton, of: Candidates, named: List) -> (usize, u64, bool) {
+        let file = File::new(reference, of, named);
         let clauses = list(&file);
         assert_eq!(clauses.len() as u64, file.clauses());
         (file.variables(), file.clauses(), solve(file.variables(), &clauses).is_some())
+    }
+
+    fn printed(reference: &Automaton, of: Candidates, named: List) -> String {
+        let mut printed = Vec::new();
+        File::new(reference, of, named).print(&mut printed).unwrap();
+        String::from_utf8(printed).unwrap()
     }
 
     #[test]
     fn first_known_deck() {
         let text = "HOA: v1 States: 1 Start: 0 Acceptance: 1 Inf(0) --BODY-- State: 0 [t] 0 --END--";
         let reference = hoa::read(text.as_bytes()).unwrap();
-        let mut printed = Vec::new();
-        File::new(&reference, Candidates::with_inf_of_all(1, 0)).print(&mut printed).unwrap();
         let lines = "p cnf 3 6\n1 0\n2 0\n-2 -1 2 0\n-2 -1 2 0\n-3 -1 3 0\n-2 -1 0\n";
-        assert_eq!(String::from_utf8(printed).unwrap(), lines);
+        assert_eq!(printed(&reference, Candidates::with_inf_of_all(1, 0), List::First), lines);
         // "Unsatisfiable."
         assert_eq!(deck(&reference, 1, 0), (3, 6, false));
     }
@@ -318,50 +297,86 @@ pub mod tests {
 
     #[test]
     fn largest_sizes() {
-        // "Largest sizes: V = 4,199,424."
-        let largest = Numbering { n: 8, m: 4, r: 16, s: 4, letters: 16 };
-        assert_eq!(largest.variables(), 4_199_424);
-        assert_eq!(largest.path((7, 15), (7, 15), 15, 15), 4_199_424);
         // Most clauses where every transition of the reference carries all its sets.
         let row = vec![Transition { to: 0, marks: 15 }; 16];
         let names = (b'a'..b'e').map(|name| vec![name]).collect();
         let reference = Automaton { start: 0, sets: 4, acceptance: inf_of_all(4), names, table: vec![row; 16] };
         let of = Candidates::with_inf_of_all(8, 4);
-        assert_eq!(File::new(&reference, of).clauses(), 8_635_826_305);
+        assert_eq!(File::new(&reference, of, List::First).clauses(), 8_635_826_305);
+        // All states are lone, and only state 0 has transitions to its own component: 512·16·4,096 clauses of
+        // group 3, and 64·16·16·175 of group 4, since 175 of the 256 unions of two sets are not all four.
+        let second = 128 + 16_385 + 33_554_432 + 2_867_200;
+        assert_eq!(File::new(&reference, of, List::Second).clauses(), second);
         // And more where the two acceptances agree on nothing: then group 4 has all of its
         // nnrL·2^m·2^s·2^m clauses. 128 + 16,385 + 8,589,934,592 + 67,108,864.
         let never = Automaton { acceptance: 0, ..reference };
         let of = Candidates { acceptance: u16::MAX, ..of };
-        assert_eq!(File::new(&never, of).clauses(), 8_657_059_969);
+        assert_eq!(File::new(&never, of, List::First).clauses(), 8_657_059_969);
+    }
+
+    /// Components, some of them lone states, or one that is the whole.
+    fn any_reference(random: &mut Random, states: usize, k: usize, sets: usize) -> Automaton {
+        let any = any_automaton(random, states, k, sets);
+        match random.below(4) {
+            0 => any,
+            1 => with_layered_copies(random, &any, states + 1),
+            _ => layered(random, &any),
+        }
+    }
+
+    /// For each two states whether both lie in one component, by ways from each to the other; in the first
+    /// list any two do.
+    fn sharing(reference: &Automaton, named: List) -> Vec<Vec<bool>> {
+        let reaches = reaches(&reference.destinations());
+        let states = 0..reference.states();
+        let share = |u: usize, v: usize| named == List::First || (reaches[u][v] && reaches[v][u]);
+        states.clone().map(|u| states.clone().map(|v| share(u, v)).collect()).collect()
+    }
+
+    /// Group 3 counted in another way: for each state the transitions within its component, as often as
+    /// this has states.
+    fn third_by_sizes(reference: &Automaton, of: Candidates, named: List) -> u64 {
+        let share = sharing(reference, named);
+        let size = |v: usize| share[v].iter().filter(|&&there| there).count();
+        let within = |v: usize| reference.table[v].iter().filter(|edge| share[v][edge.to]).count();
+        let kept: usize = (0..reference.states()).map(|v| size(v) * within(v)).sum();
+        ((of.n * of.n * of.n * kept) as u64) * 4u64.pow(of.m as u32) * (1 << reference.sets)
     }
 
     /// Group 4 counted in another way: of all pairs of sets I, K there are 3^x with I∪K = X, where X
     /// has x sets.
-    fn fourth_by_unions(reference: &Automaton, of: Candidates) -> u64 {
+    fn fourth_by_unions(reference: &Automaton, of: Candidates, named: List) -> u64 {
+        let share = sharing(reference, named);
         let mut kept = 0;
-        for edge in reference.table.iter().flatten() {
-            for union in 0..1usize << of.m {
-                let taken = of.acceptance >> union & 1 == 1;
-                let joined = (0..1u8 << reference.sets).map(|j| j | edge.marks);
-                let disagree = joined.filter(|&marks| reference.takes(marks) != taken).count() as u64;
-                kept += 3u64.pow(union.count_ones()) * disagree;
+        for (v, row) in reference.table.iter().enumerate() {
+            for edge in row.iter().filter(|edge| share[v][edge.to]) {
+                for union in 0..1usize << of.m {
+                    let taken = of.acceptance >> union & 1 == 1;
+                    let joined = (0..1u8 << reference.sets).map(|j| j | edge.marks);
+                    let disagree = joined.filter(|&marks| reference.takes(marks) != taken).count() as u64;
+                    kept += 3u64.pow(union.count_ones()) * disagree;
+                }
             }
         }
         (of.n * of.n) as u64 * kept
     }
 
     #[test]
-    fn group_four_for_any_acceptance() {
+    fn groups_counted_in_another_way() {
         let mut random = Random::new(19);
-        for _ in 0..300 {
+        let mut fewer = 0;
+        for round in 0..300 {
             let (states, k, sets) = (random.within(1, 3), random.within(0, 2), random.within(0, 4));
-            let reference = any_automaton(&mut random, states, k, sets);
+            let reference = any_reference(&mut random, states, k, sets);
             let (n, m) = (random.within(1, 2), random.within(0, 2));
             let of = Candidates { n, m, acceptance: random_acceptance(&mut random, m) };
-            let file = File::new(&reference, of);
-            let fourth = fourth_by_unions(&reference, of);
+            let named = LISTS[round % 2];
+            let file = File::new(&reference, of, named);
+            let fourth = fourth_by_unions(&reference, of, named);
             let last = |clauses: Vec<Vec<i32>>| clauses[clauses.len() - fourth as usize..].to_vec();
+            assert_eq!(file.third_group(), third_by_sizes(&reference, of, named));
             assert_eq!(file.fourth_group(), fourth);
+            fewer += (file.clauses() < File::new(&reference, of, List::First).clauses()) as usize;
             if sets + m < 5 {
                 // The list ends with just so many clauses without a positive path.
                 let clauses = list(&file);
@@ -369,6 +384,7 @@ pub mod tests {
                 assert!(last(clauses).iter().all(|clause| clause.len() == 2 + m));
             }
         }
+        assert!((50..150).contains(&fewer), "{fewer} of 150");
     }
 
     #[test]
@@ -379,45 +395,115 @@ pub mod tests {
         let text = "HOA: v1 States: 1 Start: 0 AP: 1 \"a\" Acceptance: 1 Inf(0) --BODY-- State: 0 0 0 {0} --END--";
         let reference = hoa::read(text.as_bytes()).unwrap();
         let of = |acceptance: u16| Candidates { n: 1, m: 1, acceptance };
-        let groups = |acceptance: u16| File::new(&reference, of(acceptance)).fourth_group();
+        let groups = |acceptance: u16| File::new(&reference, of(acceptance), List::First).fourth_group();
         assert_eq!([0b01, 0b10, 0b11, 0b00].map(groups), [10, 6, 4, 12]);
         // V = 2 steps, 2 marks, 4 paths. C = 2 + (1 + 2) + 2·2·2·2 + the fourth.
-        let deck = |acceptance: u16| deck_of(&reference, of(acceptance));
+        let deck = |acceptance: u16| deck_of(&reference, of(acceptance), List::First);
         assert_eq!(deck(0b01), (8, 31, false));
         assert_eq!(deck(0b10), (8, 27, true));
         // "finitely often a" the other way round.
         let finitely = Automaton { acceptance: 0b01, ..reference.clone() };
-        assert_eq!(deck_of(&finitely, of(0b01)), (8, 27, true));
-        assert_eq!(deck_of(&finitely, of(0b10)), (8, 31, false));
+        assert_eq!(deck_of(&finitely, of(0b01), List::First), (8, 27, true));
+        assert_eq!(deck_of(&finitely, of(0b10), List::First), (8, 31, false));
+    }
+
+    /// What is printed, its lines joined.
+    fn joined(reference: &Automaton, of: Candidates, named: List) -> String {
+        printed(reference, of, named).lines().collect::<Vec<&str>>().join(", ")
     }
 
     #[test]
-    fn numbers_follow_one_another() {
-        let number = Numbering { n: 2, m: 1, r: 3, s: 1, letters: 2 };
-        let mut numbers = Vec::new();
-        for (q, l) in pairs(2, 2) {
-            numbers.extend((0..2).map(|p| number.step(q, l, p)));
-        }
-        for (q, l) in pairs(2, 2) {
-            numbers.extend((0..2).map(|p| number.mark(q, l, 0, p)));
-        }
-        for (first, last) in pairs(6, 6) {
-            for (i, j) in pairs(2, 2) {
-                numbers.push(number.path((first / 3, first % 3), (last / 3, last % 3), i, j));
-            }
-        }
-        assert_eq!(numbers, (1..=number.variables()).collect::<Vec<usize>>());
+    fn one_way_by_hand() {
+        // State 0 leads to 1, and 1 to itself; the set is never met. With one state and no set the step is 1,
+        // and the paths are (0,0,{}), (0,0,{0}), (1,1,{}), (1,1,{0}), numbered 2 to 5.
+        let text = "HOA: v1 States: 2 Start: 0 Acceptance: 1 Inf(0) --BODY-- State: 0 1 State: 1 1 --END--";
+        let reference = hoa::read(text.as_bytes()).unwrap();
+        let of = Candidates::with_inf_of_all(1, 0);
+        // Groups 1 and 2; of group 3 only u = v = 1, J first {} and then {0}; of group 4 only v = 1, J = {}.
+        let second = "p cnf 5 7, 1 0, 2 0, -2 -1 4 0, -4 -1 4 0, -4 -1 4 0, -5 -1 5 0, -4 -1 0";
+        assert_eq!(joined(&reference, of, List::Second), second);
+        // The first list has the paths from 0 to 1 and from 1 to 0 too: 2 and 3, 4 and 5, 6 and 7, 8 and 9.
+        let first = "p cnf 9 14, 1 0, 2 0, -2 -1 8 0, -8 -1 8 0, \
+                     -2 -1 4 0, -3 -1 5 0, -4 -1 4 0, -5 -1 5 0, -6 -1 8 0, -7 -1 9 0, -8 -1 8 0, -9 -1 9 0, \
+                     -6 -1 0, -8 -1 0";
+        assert_eq!(joined(&reference, of, List::First), first);
     }
 
     #[test]
-    fn list_can_be_satisfied_just_where_a_table_agrees() {
+    fn two_states_and_a_lone_one_by_hand() {
+        // 0 leads to 1 by letter 0 and leaves for 2 by letter 1; 1 leads to 0, meeting the set, and to itself; 2
+        // stays. One state and no set: steps 1 and 2, then for J = {} and {0} the paths from 0 to 0 and 1 (3 to
+        // 6), from 1 to 0 and 1 (7 to 10), from 2 to 2 (11 and 12).
+        let text = "HOA: v1 States: 3 Start: 0 AP: 1 \"a\" Acceptance: 1 Inf(0) --BODY-- \
+                    State: 0 1 2 State: 1 0 {0} 1 State: 2 2 2 --END--";
+        let reference = hoa::read(text.as_bytes()).unwrap();
+        // Group 3 by u: 0 with v = 0 and letter 0, with v = 1 and both letters; 1 the same; 2 with v = 2. Group 4
+        // where J and the marks are {} together: v = 0 by letter 0 only, v = 1 by letter 1, v = 2.
+        let second = "p cnf 12 29, 1 0, 2 0, \
+                      3 0, -3 -1 9 0, -3 -2 11 0, -9 -1 3 0, -9 -2 9 0, -11 -1 11 0, -11 -2 11 0, \
+                      -3 -1 5 0, -4 -1 6 0, -5 -1 4 0, -6 -1 4 0, -5 -2 5 0, -6 -2 6 0, \
+                      -7 -1 9 0, -8 -1 10 0, -9 -1 8 0, -10 -1 8 0, -9 -2 9 0, -10 -2 10 0, \
+                      -11 -1 11 0, -12 -1 12 0, -11 -2 11 0, -12 -2 12 0, \
+                      -7 -1 0, -9 -2 0, -11 -1 0, -11 -2 0";
+        let of = Candidates::with_inf_of_all(1, 0);
+        assert_eq!(joined(&reference, of, List::Second), second);
+        // Nine pairs of states: 2 + 9·2 variables, and 2 + 7 + 9·2·2 + 5 clauses.
+        assert!(joined(&reference, of, List::First).starts_with("p cnf 20 50, "));
+    }
+
+    /// The second list from the first: the clauses that name a path between states that share no component are
+    /// dropped, and the numbers close up. V, and the clauses.
+    fn by_dropping(reference: &Automaton, of: Candidates) -> (usize, Vec<Vec<i32>>) {
+        let first = File::new(reference, of, List::First);
+        let share = sharing(reference, List::Second);
+        let (r, before) = (reference.states(), of.n * of.n * reference.letters() * (1 + of.m));
+        let there = |variable: usize| {
+            let ends = variable.saturating_sub(before + 1) >> (of.m + reference.sets);
+            variable <= before || share[ends / r / of.n % r][ends % r]
+        };
+        let mut closed_up = vec![0; first.variables() + 1];
+        let mut last = 0;
+        for variable in (1..=first.variables()).filter(|&variable| there(variable)) {
+            last += 1;
+            closed_up[variable] = last;
+        }
+        let mut clauses = list(&first);
+        clauses.retain(|clause| clause.iter().all(|literal| there(literal.unsigned_abs() as usize)));
+        for literal in clauses.iter_mut().flatten() {
+            *literal = literal.signum() * closed_up[literal.unsigned_abs() as usize];
+        }
+        (last as usize, clauses)
+    }
+
+    #[test]
+    fn second_list_from_the_first() {
+        let mut random = Random::new(43);
+        let mut dropped = 0;
+        for _ in 0..200 {
+            let (states, k, sets) = (random.within(1, 5), random.within(0, 2), random.within(0, 2));
+            let reference = any_reference(&mut random, states, k, sets);
+            let (n, m) = (random.within(1, 2), random.within(0, 1));
+            let of = Candidates { n, m, acceptance: random_acceptance(&mut random, m) };
+            let file = File::new(&reference, of, List::Second);
+            let due = by_dropping(&reference, of);
+            assert_eq!((file.variables(), list(&file)), due, "{reference:?}");
+            dropped += (file.clauses() < File::new(&reference, of, List::First).clauses()) as usize;
+        }
+        assert!((80..180).contains(&dropped), "{dropped} of 200");
+    }
+
+    #[test]
+    fn lists_can_be_satisfied_just_where_a_table_agrees() {
         let mut random = Random::new(3);
         let mut count = [[0, 0]; 4];
         for round in 0..240 {
-            let reference = any_automaton(&mut random, 2, 1, 1);
+            let states = random.within(2, 3);
+            let reference = any_reference(&mut random, states, 1, 1);
             let acceptance = round % 4;
             let some = one_state_tables(&reference, acceptance).iter().any(|table| same(table, &reference));
-            assert_eq!(deck_of(&reference, Candidates { n: 1, m: 1, acceptance }).2, some);
+            for named in LISTS {
+                assert_eq!(deck_of(&reference, Candidates { n: 1, m: 1, acceptance }, named).2, some);
+            }
             count[acceptance as usize][some as usize] += 1;
         }
         assert!(count.iter().flatten().all(|&times| times > 3), "{count:?}");
@@ -442,14 +528,16 @@ pub mod tests {
         let mut count = [0, 0];
         for _ in 0..200 {
             let (sets, own) = (random.within(0, 2), random.within(0, 2));
-            let reference = any_automaton(&mut random, 2, 1, sets);
+            let reference = any_reference(&mut random, 2, 1, sets);
             let table = any_automaton(&mut random, 2, 1, own);
             let table = Automaton { start: 0, ..table };
-            let values = closure(&reference, &table);
-            let file = File::new(&reference, Candidates { n: 2, m: own, acceptance: table.acceptance });
-            let satisfied = satisfies(&values, &list(&file));
-            assert_eq!(satisfied, same(&table, &reference));
-            count[satisfied as usize] += 1;
+            let agrees = same(&table, &reference);
+            for named in LISTS {
+                let values = closure(&reference, &table, named);
+                let of = Candidates { n: 2, m: own, acceptance: table.acceptance };
+                assert_eq!(satisfies(&values, &list(&File::new(&reference, of, named))), agrees);
+            }
+            count[agrees as usize] += 1;
         }
         assert!(count[0] > 20 && count[1] > 20, "{count:?}");
     }

@@ -7,6 +7,7 @@
 //! transitions again and again meets just these sets infinitely often.
 
 use crate::automaton::*;
+use crate::components::components;
 use crate::product::{Edge, Product};
 use crate::word::{first_word, Word};
 
@@ -36,7 +37,8 @@ pub fn compare(first: &Automaton, second: &Automaton) -> Result<Comparison, Refu
 /// Whether a reached component has transitions that carry just these marks together.
 fn some_loop_meets(product: &Product, reached: &[bool], marks: [u8; 2]) -> bool {
     let allowed = |edge: &Edge| edge.marks[0] & !marks[0] == 0 && edge.marks[1] & !marks[1] == 0;
-    let component = components(product, &allowed);
+    let destinations = |edges: &Vec<Edge>| edges.iter().filter(|edge| allowed(edge)).map(|edge| edge.to).collect();
+    let component = components(&product.edges.iter().map(destinations).collect::<Vec<_>>());
     // The marks that each component carries; none where it has no transition.
     let mut carried: Vec<Option<[u8; 2]>> = vec![None; product.edges.len()];
     for (pair, edges) in product.edges.iter().enumerate().filter(|(pair, _)| reached[*pair]) {
@@ -47,75 +49,6 @@ fn some_loop_meets(product: &Product, reached: &[bool], marks: [u8; 2]) -> bool 
         }
     }
     carried.contains(&Some(marks))
-}
-
-/// For each pair the number of its strongly connected component, in the product with the allowed
-/// transitions only.
-fn components(product: &Product, allowed: &dyn Fn(&Edge) -> bool) -> Vec<usize> {
-    let pairs = product.edges.len();
-    let mut search = Components {
-        product,
-        allowed,
-        number: vec![0; pairs],
-        low: vec![0; pairs],
-        numbered: 0,
-        stack: Vec::new(),
-        component: vec![None; pairs],
-        found: 0,
-    };
-    for pair in 0..pairs {
-        if search.number[pair] == 0 {
-            search.visit(pair);
-        }
-    }
-    search.component.into_iter().flatten().collect()
-}
-
-/// Tarjan's search for strongly connected components.
-struct Components<'a> {
-    product: &'a Product,
-    allowed: &'a dyn Fn(&Edge) -> bool,
-    /// 0: not visited.
-    number: Vec<usize>,
-    low: Vec<usize>,
-    numbered: usize,
-    stack: Vec<usize>,
-    /// A visited pair that is in none yet is on the stack.
-    component: Vec<Option<usize>>,
-    found: usize,
-}
-
-impl Components<'_> {
-    fn visit(&mut self, pair: usize) {
-        self.numbered += 1;
-        self.number[pair] = self.numbered;
-        self.low[pair] = self.numbered;
-        self.stack.push(pair);
-        let product = self.product;
-        for edge in product.edges[pair].iter().filter(|edge| (self.allowed)(edge)) {
-            if self.number[edge.to] == 0 {
-                self.visit(edge.to);
-                self.low[pair] = self.low[pair].min(self.low[edge.to]);
-            } else if self.component[edge.to].is_none() {
-                self.low[pair] = self.low[pair].min(self.number[edge.to]);
-            }
-        }
-        if self.low[pair] == self.number[pair] {
-            self.take_component(pair);
-        }
-    }
-
-    /// The pairs on the stack from this one on are a component.
-    fn take_component(&mut self, first: usize) {
-        loop {
-            let pair = self.stack.pop().expect("the first pair is on the stack");
-            self.component[pair] = Some(self.found);
-            if pair == first {
-                break;
-            }
-        }
-        self.found += 1;
-    }
 }
 
 #[cfg(test)]

@@ -1,8 +1,8 @@
 //! The decoder: from what a solver said to a table that agrees with the reference.
 
 use crate::automaton::*;
-use crate::clauses::Numbering;
 use crate::compare::{compare, Comparison};
+use crate::numbering::Numbering;
 use crate::solver::{Answer, Reader, Verdict};
 use crate::word::Word;
 use std::io::Read;
@@ -17,9 +17,9 @@ pub enum Decoded {
 }
 
 /// Order: "8, then reading left to right, then 11, 14, 12", and 4 for the named acceptance after 8.
-pub fn decode<R: Read>(reference: &Automaton, n: u64, m: u64, named: Named, text: R) -> Result<Decoded, Refusal> {
-    let Candidates { n, m, acceptance } = Candidates::judged(n, m, named)?;
-    let number = Numbering::new(reference, n, m);
+pub fn decode<R: Read>(reference: &Automaton, profile: Profile, text: R) -> Result<Decoded, Refusal> {
+    let Candidates { n, m, acceptance } = profile.judged()?;
+    let number = Numbering::new(reference, n, m, profile.list);
     let answer = read(text, Reader::new(number.variables(), number.steps_and_marks()))?;
     match answer.verdict {
         Verdict::Unsatisfiable => Ok(Decoded::None),
@@ -79,15 +79,15 @@ fn transition(number: &Numbering, answer: &Answer, q: usize, l: usize) -> Result
 #[cfg(test)]
 mod tests {
     use super::*;
-    use crate::clauses::tests::{both_for_ever, list, solve};
+    use crate::clauses::tests::{both_for_ever, list, solve, LISTS};
     use crate::clauses::File;
-    use crate::generate::{any_automaton, Random};
+    use crate::generate::{any_automaton, layered, Random};
     use crate::generate_acceptance::random_acceptance;
     use crate::hoa;
 
-    /// For Inf of all sets.
+    /// For Inf of all sets and the first list.
     fn decode(reference: &Automaton, n: u64, m: u64, text: &[u8]) -> Result<Decoded, Refusal> {
-        super::decode(reference, n, m, Named::InfOfAll, text)
+        super::decode(reference, Profile::with_inf_of_all(n, m, List::First), text)
     }
 
     fn all_words() -> Automaton {
@@ -136,25 +136,51 @@ mod tests {
     #[test]
     fn satisfying_assignments_decode_to_tables_that_agree() {
         let mut random = Random::new(9);
-        let mut found = 0;
+        let mut found = [0, 0];
         for round in 0..60 {
-            let reference = match round {
-                0 => both_for_ever(),
-                _ => any_automaton(&mut random, 2, 1, 1),
+            let any = any_automaton(&mut random, 2, 1, 1);
+            let (reference, of) = match round {
+                0 => (both_for_ever(), Candidates::with_inf_of_all(2, 1)),
+                _ => {
+                    let reference = if random.one_in(2) { layered(&mut random, &any) } else { any };
+                    (reference, Candidates { n: 2, m: 1, acceptance: random_acceptance(&mut random, 1) })
+                }
             };
-            let of = match round {
-                0 => Candidates::with_inf_of_all(2, 1),
-                _ => Candidates { n: 2, m: 1, acceptance: random_acceptance(&mut random, 1) },
-            };
-            let file = File::new(&reference, of);
-            let Some(values) = solve(file.variables(), &list(&file)) else { continue };
-            let named = Named::Number(of.acceptance as u64);
-            let decoded = super::decode(&reference, 2, 1, named, stated(&values).as_bytes());
-            let Ok(Decoded::Table(table)) = decoded else { panic!("{reference:?}: {decoded:?}") };
-            assert_eq!(table.acceptance, of.acceptance);
-            found += 1;
+            for list_named in LISTS {
+                let file = File::new(&reference, of, list_named);
+                let Some(values) = solve(file.variables(), &list(&file)) else { continue };
+                let acceptance = Named::Number(of.acceptance as u64);
+                let profile = Profile { n: 2, m: 1, acceptance, list: list_named };
+                let decoded = super::decode(&reference, profile, stated(&values).as_bytes());
+                let Ok(Decoded::Table(table)) = decoded else { panic!("{reference:?}: {decoded:?}") };
+                assert_eq!(table.acceptance, of.acceptance);
+                found[(list_named == List::Second) as usize] += 1;
+            }
         }
-        assert!(found > 10, "{found}");
+        assert!(found[0] > 10 && found[0] == found[1], "{found:?}");
+    }
+
+    #[test]
+    fn the_named_list_has_the_last_variable() {
+        // State 0 leads to 1, which stays and meets the set: all words. With one state and no set V is 9 in the
+        // first list and 5 in the second; the paths that state 1 needs are 8 and 9 in the first, 4 and 5 in
+        // the second.
+        let text = "HOA: v1 States: 2 Start: 0 Acceptance: 1 Inf(0) --BODY-- State: 0 1 State: 1 1 {0} --END--";
+        let reference = hoa::read(text.as_bytes()).unwrap();
+        let decoded = |named: List, line: &str| {
+            let text = format!("s SATISFIABLE\nv {line} 0\n");
+            super::decode(&reference, Profile::with_inf_of_all(1, 0, named), text.as_bytes())
+        };
+        let table = Ok(Decoded::Table(all_words()));
+        assert_eq!(decoded(List::First, "1 2 5 8 9"), table);
+        assert_eq!(decoded(List::Second, "1 2 4 5"), table);
+        assert_eq!(decoded(List::First, "1 2 4 5"), table);
+        assert_eq!(decoded(List::Second, "1 2 5 8 9"), Err(Refusal::new(10, 22, 0)));
+        assert_eq!(decoded(List::Second, "1 -6"), Err(Refusal::new(10, 18, 0)));
+        assert_eq!(decoded(List::First, "10 1"), Err(Refusal::new(10, 16, 0)));
+        // A path may be named twice, a step not.
+        assert_eq!(decoded(List::Second, "1 5 -5 5"), table);
+        assert_eq!(decoded(List::Second, "1 5 1"), Err(Refusal::new(10, 20, 0)));
     }
 
     #[test]
@@ -162,9 +188,13 @@ mod tests {
         // One state, k = 0, one set; the step is 1, its mark 2, V = 4.
         let text = "HOA: v1 States: 1 Start: 0 Acceptance: 1 Fin(0) --BODY-- State: 0 [t] 0 --END--";
         let reference = hoa::read(text.as_bytes()).unwrap();
+        let profile = |n: u64, number: u64| {
+            let acceptance = Named::Number(number);
+            Profile { n, m: 1, acceptance, list: List::First }
+        };
         let decoded = |acceptance: u64, line: &str| {
             let text = format!("s SATISFIABLE\nv {line} 0");
-            super::decode(&reference, 1, 1, Named::Number(acceptance), text.as_bytes())
+            super::decode(&reference, profile(1, acceptance), text.as_bytes())
         };
         assert_eq!(decoded(0b01, "1 -2"), Ok(Decoded::Table(reference.clone())));
         let word = Word { prefix: vec![], cycle: vec![0] };
@@ -175,7 +205,6 @@ mod tests {
         assert_eq!(decoded(0b10, "1 2"), Ok(Decoded::Table(table)));
         // After 8 and before the text.
         assert_eq!(decoded(0b100, "x"), Err(Refusal::new(4, 0, 0)));
-        let text = &b"x"[..];
-        assert_eq!(super::decode(&reference, 0, 1, Named::Number(4), text), Err(Refusal::new(8, 0, 1)));
+        assert_eq!(super::decode(&reference, profile(0, 4), &b"x"[..]), Err(Refusal::new(8, 0, 1)));
     }
 }

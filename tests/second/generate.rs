@@ -1,12 +1,12 @@
 //! Generated inputs, from a fixed pseudo-random generator: the same seed gives the same files.
 
 use crate::automaton::*;
-use crate::clauses::Numbering;
 use crate::generate_acceptance::random_acceptance;
 use crate::generate_formula::full;
 use crate::generate_hoa::hoa_text;
-use crate::generate_solver::{profile_case, search_case, solver_case, SolverCase};
+use crate::generate_solver::{lists_case, profile_case, search_case, solver_case, SolverCase};
 use crate::hoa;
+use crate::numbering::Numbering;
 use std::path::Path;
 use std::{fs, io};
 
@@ -87,6 +87,57 @@ pub fn any_automaton(random: &mut Random, states: usize, k: usize, sets: usize) 
     Automaton { acceptance, ..random_automaton(random, states, k, sets) }
 }
 
+/// The same with states in layers, and transitions to the same layer or a later one: mostly there are
+/// several components then, and states outside any cycle.
+pub fn layered(random: &mut Random, given: &Automaton) -> Automaton {
+    let layers = Layers::new(random, given.states(), given.states());
+    let mut other = given.clone();
+    for (q, row) in other.table.iter_mut().enumerate() {
+        let onward = layers.onward(q, (0..given.states()).collect());
+        for edge in row {
+            if !onward.contains(&edge.to) {
+                edge.to = random.pick(&onward);
+            }
+        }
+    }
+    other
+}
+
+/// For each state its layer.
+struct Layers {
+    layer: Vec<usize>,
+    /// For each layer whether its states lead to later ones only, if there are any.
+    passing: Vec<bool>,
+}
+
+impl Layers {
+    fn one(states: usize) -> Layers {
+        Layers { layer: vec![0; states], passing: vec![false] }
+    }
+
+    /// At most so many.
+    fn new(random: &mut Random, states: usize, most: usize) -> Layers {
+        let layers = random.within(1, most);
+        let layer = (0..states).map(|_| random.below(layers)).collect();
+        Layers { layer, passing: (0..layers).map(|_| random.one_in(3)).collect() }
+    }
+
+    /// Of these states those to which a transition may lead from the named one; all where it may lead to none.
+    fn onward(&self, from: usize, states: Vec<usize>) -> Vec<usize> {
+        let here = self.layer[from];
+        let later: Vec<usize> = states.iter().copied().filter(|&to| self.layer[to] > here).collect();
+        if self.passing[here] && !later.is_empty() {
+            return later;
+        }
+        let onward: Vec<usize> = states.iter().copied().filter(|&to| self.layer[to] >= here).collect();
+        if onward.is_empty() {
+            states
+        } else {
+            onward
+        }
+    }
+}
+
 /// States that letter 0 leads round, with each set on one transition only: words that tell such
 /// automata from one another are long.
 fn sparse_automaton(random: &mut Random) -> Automaton {
@@ -137,22 +188,31 @@ pub fn names(random: &mut Random, k: usize) -> Vec<Vec<u8>> {
 /// An automaton with copies of states, and for each of its states the one it is a copy of.
 /// It agrees with the given one, whichever copy each transition leads to.
 pub fn with_copies(random: &mut Random, given: &Automaton, states: usize) -> (Automaton, Vec<usize>) {
+    copied(random, given, states, &Layers::one(states))
+}
+
+/// The same with copies in layers, so that those of one component mostly fall into several.
+pub fn with_layered_copies(random: &mut Random, given: &Automaton, states: usize) -> Automaton {
+    let layers = Layers::new(random, states, 3);
+    copied(random, given, states, &layers).0
+}
+
+fn copied(random: &mut Random, given: &Automaton, states: usize, layers: &Layers) -> (Automaton, Vec<usize>) {
     let mut origin: Vec<usize> = (0..states)
         .map(|state| if state < given.states() { state } else { random.below(given.states()) })
         .collect();
     random.shuffle(&mut origin);
+    let copies = |state: usize| (0..states).filter(|&copy| origin[copy] == state).collect();
     let mut table = Vec::new();
-    for &of in &origin {
-        let copied = |edge: &Transition| Transition { to: copy_of(random, &origin, edge.to), ..*edge };
+    for (copy, &of) in origin.iter().enumerate() {
+        let copied = |edge: &Transition| {
+            let to = random.pick(&layers.onward(copy, copies(edge.to)));
+            Transition { to, ..*edge }
+        };
         table.push(given.table[of].iter().map(copied).collect());
     }
-    let start = copy_of(random, &origin, given.start);
+    let start = random.pick::<usize>(&copies(given.start));
     (Automaton { start, table, ..given.clone() }, origin)
-}
-
-fn copy_of(random: &mut Random, origin: &[usize], state: usize) -> usize {
-    let copies: Vec<usize> = (0..origin.len()).filter(|&copy| origin[copy] == state).collect();
-    random.pick(&copies)
 }
 
 /// The same automaton with states 0 and `start` exchanged: the start is then 0.
@@ -269,8 +329,8 @@ pub fn nearly(random: &mut Random, given: &Automaton) -> Automaton {
 
 /// The assignment that states the table, and of the paths just those that there are: it
 /// satisfies the clause file if the table agrees with the reference. Index 0 is not used.
-pub fn closure(reference: &Automaton, table: &Automaton) -> Vec<bool> {
-    let number = Numbering::new(reference, table.states(), table.sets);
+pub fn closure(reference: &Automaton, table: &Automaton, list: List) -> Vec<bool> {
+    let number = Numbering::new(reference, table.states(), table.sets, list);
     let mut values = vec![false; number.variables() + 1];
     for q in 0..number.n {
         for l in 0..number.letters {
@@ -303,8 +363,10 @@ pub fn close(reference: &Automaton, number: &Numbering, values: &mut [bool]) {
                 continue;
             }
             for (next, candidate_marks, reference_marks) in product_steps(reference, number, values, end) {
-                ends.push((next, i | candidate_marks, j | reference_marks));
                 starts.push(next);
+                if number.share(u, next.1) {
+                    ends.push((next, i | candidate_marks, j | reference_marks));
+                }
             }
         }
     }
@@ -341,8 +403,9 @@ pub fn generate(kind: &str, seed: u64, count: usize, directory: &Path) -> io::Re
         "pairs" => write_pair,
         "solver" => write_solver,
         "profile" => write_profile,
+        "lists" => write_lists,
         "search" => write_search,
-        _ => return Err(io::Error::new(io::ErrorKind::InvalidInput, "kinds: hoa, pairs, solver, profile, search")),
+        _ => return Err(io::Error::new(io::ErrorKind::InvalidInput, KINDS)),
     };
     fs::create_dir_all(directory)?;
     for case in 0..count {
@@ -350,6 +413,8 @@ pub fn generate(kind: &str, seed: u64, count: usize, directory: &Path) -> io::Re
     }
     Ok(())
 }
+
+const KINDS: &str = "kinds: hoa, pairs, solver, profile, lists, search";
 
 type Names<'a> = &'a dyn Fn(&str) -> std::path::PathBuf;
 
@@ -369,14 +434,26 @@ fn write_solver(random: &mut Random, name: Names) -> io::Result<()> {
 
 fn write_profile(random: &mut Random, name: Names) -> io::Result<()> {
     let case = profile_case(random);
-    fs::write(name("acceptance"), format!("{}\n", case.acceptance_word()))?;
+    fs::write(name("acceptance"), format!("{}\n", case.profile.acceptance.word()))?;
     write_case(case, name)
 }
 
 fn write_case(case: SolverCase, name: Names) -> io::Result<()> {
-    fs::write(name("reference.hoa"), hoa::write(&case.reference))?;
-    fs::write(name("sizes"), format!("{} {}\n", case.n, case.m))?;
+    fs::write(name("list"), format!("{}\n", case.profile.list.word()))?;
+    write_reference(&case.reference, &case.profile, name)?;
     fs::write(name("solver"), case.text)
+}
+
+fn write_reference(reference: &Automaton, profile: &Profile, name: Names) -> io::Result<()> {
+    fs::write(name("reference.hoa"), hoa::write(reference))?;
+    fs::write(name("sizes"), format!("{} {}\n", profile.n, profile.m))
+}
+
+/// For both lists.
+fn write_lists(random: &mut Random, name: Names) -> io::Result<()> {
+    let (reference, profile) = lists_case(random);
+    fs::write(name("acceptance"), format!("{}\n", profile.acceptance.word()))?;
+    write_reference(&reference, &profile, name)
 }
 
 fn write_search(random: &mut Random, name: Names) -> io::Result<()> {
@@ -432,6 +509,8 @@ mod tests {
             let (states, k, sets) = (random.within(1, 4), random.within(0, 2), random.within(0, 2));
             let given = any_automaton(&mut random, states, k, sets);
             let (copied, _) = with_copies(&mut random, &given, states + 2);
+            let layered = with_layered_copies(&mut random, &given, states + 2);
+            assert_eq!(compare(&given, &layered), Ok(Comparison::Same));
             let other = starting_at_zero(&with_sets(&mut random, &copied, sets + 1));
             assert_eq!(other.start, 0);
             assert_eq!(compare(&given, &other), Ok(Comparison::Same));

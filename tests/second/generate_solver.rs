@@ -1,27 +1,15 @@
 //! Generated solver texts for small references, and chains of answers for the search.
 
 use crate::automaton::*;
-use crate::clauses::Numbering;
 use crate::generate::*;
+use crate::generate_acceptance::random_acceptance;
+use crate::numbering::Numbering;
 use crate::search::Search;
 
 pub struct SolverCase {
     pub reference: Automaton,
-    pub n: usize,
-    pub m: usize,
-    /// The acceptance that the caller names for the candidate.
-    pub named: Named,
+    pub profile: Profile,
     pub text: Vec<u8>,
-}
-
-impl SolverCase {
-    /// The argument that names the acceptance.
-    pub fn acceptance_word(&self) -> String {
-        match self.named {
-            Named::InfOfAll => "all".to_string(),
-            Named::Number(number) => number.to_string(),
-        }
-    }
 }
 
 /// A reference and a text for it, for Inf of all sets; now and then n or m is out of range.
@@ -55,12 +43,17 @@ fn past_the_sets(random: &mut Random, m: usize) -> u64 {
 }
 
 /// A text, mostly with a table that has the sets and the acceptance of `wide`.
-fn case_of(random: &mut Random, plan: Plan, wide: Automaton, n: usize, named: Named) -> SolverCase {
-    let m = wide.sets;
+fn case_of(random: &mut Random, plan: Plan, wide: Automaton, n: usize, acceptance: Named) -> SolverCase {
+    let (m, list) = (wide.sets, any_list(random));
     let text = match random.below(8) {
         0 => verdict_only(random, "UNSATISFIABLE"),
         1 => verdict_only(random, "UNKNOWN"),
-        _ => table_text(random, &plan, &wide, n),
+        2 => {
+            // A text for the one list may be given to the other.
+            let other = any_list(random);
+            table_text(random, &plan, &wide, n, other)
+        }
+        _ => table_text(random, &plan, &wide, n, list),
     };
     let (n, m) = match random.below(60) {
         0 => (0, m),
@@ -68,7 +61,48 @@ fn case_of(random: &mut Random, plan: Plan, wide: Automaton, n: usize, named: Na
         2 => (n, 5),
         _ => (n, m),
     };
-    SolverCase { reference: plan.reference, n, m, named, text }
+    let profile = Profile { n: n as u64, m: m as u64, acceptance, list };
+    SolverCase { reference: plan.reference, profile, text }
+}
+
+fn any_list(random: &mut Random) -> List {
+    random.pick(&[List::First, List::Second])
+}
+
+/// A small reference with several states, and sizes and an acceptance for which there is a table, or mostly
+/// none; the list is left to the caller.
+pub fn lists_case(random: &mut Random) -> (Automaton, Profile) {
+    let (states, n) = (random.within(2, 4), random.within(1, 2));
+    let (reference, m, acceptance) = match random.below(3) {
+        0 => with_a_table(random, states, n),
+        _ => {
+            let (k, s, m) = (random.within(1, 2), random.within(1, 2), random.within(0, 2));
+            let any = any_automaton(random, states, k, s);
+            (layered(random, &any), m, random_acceptance(random, m))
+        }
+    };
+    let all = acceptance == inf_of_all(m);
+    let acceptance = if all { Named::InfOfAll } else { Named::Number(acceptance as u64) };
+    (reference, Profile { n: n as u64, m: m as u64, acceptance, list: List::First })
+}
+
+/// A reference for which n states are enough, with the sets and the acceptance for which they are.
+fn with_a_table(random: &mut Random, states: usize, n: usize) -> (Automaton, usize, u16) {
+    let (k, sets) = (random.within(0, 2), random.within(0, 1));
+    let (s, m) = (sets + random.below(2), sets + random.below(2));
+    let core = any_core(random, n, k, sets);
+    let copied = with_layered_copies(random, &core, states);
+    let reference = in_other_words(random, &copied, s);
+    (reference, m, in_other_words(random, &core, m).acceptance)
+}
+
+/// Any automaton of this size, half of them with layers.
+fn any_core(random: &mut Random, states: usize, k: usize, sets: usize) -> Automaton {
+    let core = any_automaton(random, states, k, sets);
+    if random.one_in(2) {
+        return layered(random, &core);
+    }
+    core
 }
 
 /// A small automaton and a reference that agrees with it.
@@ -81,24 +115,30 @@ impl Plan {
     /// With Inf of all sets, for which the search and the clause program ask; the reference may say
     /// the same in other words.
     fn new(random: &mut Random) -> Plan {
-        let (states, k, sets) = Plan::core_sizes(random);
-        let core = random_automaton(random, states, k, sets);
-        Plan::of(random, core)
+        let core = Plan::core(random);
+        let acceptance = inf_of_all(core.sets);
+        Plan::of(random, Automaton { acceptance, ..core })
     }
 
     fn with_any_acceptance(random: &mut Random) -> Plan {
-        let (states, k, sets) = Plan::core_sizes(random);
-        let core = any_automaton(random, states, k, sets);
+        let core = Plan::core(random);
         Plan::of(random, core)
     }
 
-    fn core_sizes(random: &mut Random) -> (usize, usize, usize) {
-        (random.within(1, 2), random.within(0, 2), random.within(0, 2))
+    /// At times three states, with few letters and sets, so that the clause file is not too long.
+    fn core(random: &mut Random) -> Automaton {
+        let (states, k, sets) = match random.below(8) {
+            0 => (3, random.within(0, 1), random.within(0, 1)),
+            _ => (random.within(1, 2), random.within(0, 2), random.within(0, 2)),
+        };
+        any_core(random, states, k, sets)
     }
 
+    /// At times the reference has many states, where that does not make the clause file too long.
     fn of(random: &mut Random, core: Automaton) -> Plan {
-        let more = core.states() + random.below(3);
-        let (copied, _) = with_copies(random, &core, more);
+        let further = if core.states() < 3 && core.sets == 0 && random.one_in(4) { 12 } else { 3 };
+        let more = core.states() + random.below(further);
+        let copied = with_layered_copies(random, &core, more);
         let sets = core.sets + random.below(2);
         let other_sets = if random.one_in(2) { with_sets } else { in_other_words };
         let reference = other_sets(random, &copied, sets);
@@ -112,13 +152,13 @@ impl Plan {
 
     /// What each step and mark variable is: a table that agrees, with further true steps to states
     /// that are copies of the same one. `wide` is the small automaton with as many sets as are asked for.
-    fn values(&self, random: &mut Random, wide: &Automaton, n: usize) -> Vec<bool> {
+    fn values(&self, random: &mut Random, wide: &Automaton, n: usize, list: List) -> Vec<bool> {
         let (copied, mut origin) = with_copies(random, wide, n);
         origin.swap(0, copied.start);
         let table = starting_at_zero(&copied);
-        let mut values = closure(&self.reference, &table);
+        let mut values = closure(&self.reference, &table, list);
         if random.one_in(2) {
-            let number = Numbering::new(&self.reference, n, wide.sets);
+            let number = Numbering::new(&self.reference, n, wide.sets, list);
             self.further_steps(random, &number, &table, &origin, &mut values);
             close(&self.reference, &number, &mut values);
         }
@@ -150,21 +190,24 @@ impl Plan {
 fn verdict_only(random: &mut Random, verdict: &str) -> Vec<u8> {
     let mut lines = Lines::new(random, verdict, Vec::new());
     if random.one_in(3) {
-        lines.damage(random, 9);
+        lines.damage(random, 8, 9);
     }
     lines.text(random)
 }
 
-fn table_text(random: &mut Random, plan: &Plan, wide: &Automaton, n: usize) -> Vec<u8> {
-    let mut values = plan.values(random, wide, n);
-    let number = Numbering::new(&plan.reference, n, wide.sets);
+fn table_text(random: &mut Random, plan: &Plan, wide: &Automaton, n: usize, list: List) -> Vec<u8> {
+    let mut values = plan.values(random, wide, n, list);
+    let number = Numbering::new(&plan.reference, n, wide.sets, list);
     if random.one_in(3) {
         another_table(random, &number, &mut values);
     }
     let literals = literals(random, &number, &values);
     let mut lines = Lines::new(random, "SATISFIABLE", literals);
     if random.below(100) < 45 {
-        lines.damage(random, number.variables());
+        let (last, of_first) = (number.variables(), Numbering::new(&plan.reference, n, wide.sets, List::First));
+        // Past V, and in the second list mostly not past that of the first.
+        let past = random.within(last + 1, of_first.variables().max(last + 1));
+        lines.damage(random, last, past);
     }
     let mut text = lines.text(random);
     if random.one_in(8) {
@@ -242,16 +285,20 @@ impl Lines {
         (0..self.lines.len()).filter(|&at| self.lines[at].first().map(String::as_str) == Some(kind)).collect()
     }
 
-    fn damage(&mut self, random: &mut Random, variables: usize) {
+    /// `last` is the last variable, and `past` is past it.
+    fn damage(&mut self, random: &mut Random, last: usize, past: usize) {
         let v_lines = self.of("v");
         if v_lines.is_empty() || random.one_in(4) {
             return self.damage_lines(random);
         }
         let line = random.pick(&v_lines);
         let at = random.within(1, self.lines[line].len());
-        let (past, huge) = ((variables + 1).to_string(), "9".repeat(random.within(9, 25)));
-        let odd =
-            ["0", "-0", "01", "-01", "+1", "--1", "-", "1-", "9x", "x", "1", "-1", "2", "0x1", "1.0", &past, &huge];
+        let (next, huge) = ((last + 1).to_string(), "9".repeat(random.within(9, 25)));
+        let (last, past) = (last.to_string(), past.to_string());
+        let odd = [
+            "0", "-0", "01", "-01", "+1", "--1", "-", "1-", "9x", "x", "1", "-1", "2", "0x1", "1.0", &last, &next,
+            &past, &past, &huge,
+        ];
         match random.below(5) {
             0 if at < self.lines[line].len() => drop(self.lines[line].remove(at)),
             1 if at < self.lines[line].len() => {
@@ -343,7 +390,7 @@ pub fn search_case(random: &mut Random) -> (Automaton, Vec<Vec<u8>>) {
     if random.one_in(2) {
         let further = random.pick(&[1, 2, 3, 4, 5, 12]);
         let more = (plan.reference.states() + further).min(MAX_STATES);
-        plan.reference = with_copies(random, &plan.reference, more).0;
+        plan.reference = with_layered_copies(random, &plan.reference, more);
     }
     let mut search = Search::new(&plan.reference);
     let mut answers = Vec::new();
@@ -375,7 +422,9 @@ fn next_answer(random: &mut Random, plan: &Plan, n: usize, m: usize) -> Vec<u8> 
         1 if random.one_in(2) => b"s SATISFIABLE\nv 0\n".to_vec(),
         2 if possible => {
             let wide = with_sets(random, &plan.core, m);
-            table_text(random, plan, &wide, n)
+            // An answer to either list is in form.
+            let list = any_list(random);
+            table_text(random, plan, &wide, n, list)
         }
         3..=15 if possible => stated(random, plan, n, m),
         _ => verdict_text("UNSATISFIABLE"),
@@ -384,9 +433,9 @@ fn next_answer(random: &mut Random, plan: &Plan, n: usize, m: usize) -> Vec<u8> 
 
 /// The steps and marks of a table that agrees, or now and then of another, on one line.
 fn stated(random: &mut Random, plan: &Plan, n: usize, m: usize) -> Vec<u8> {
-    let number = Numbering::new(&plan.reference, n, m);
+    let number = Numbering::new(&plan.reference, n, m, List::First);
     let wide = with_sets(random, &plan.core, m);
-    let mut values = plan.values(random, &wide, n);
+    let mut values = plan.values(random, &wide, n, List::First);
     if random.one_in(12) {
         another_table(random, &number, &mut values);
     }
@@ -397,30 +446,35 @@ fn stated(random: &mut Random, plan: &Plan, n: usize, m: usize) -> Vec<u8> {
 #[cfg(test)]
 mod tests {
     use super::*;
-    use crate::clauses::tests::{list, satisfies};
+    use crate::clauses::tests::{list, satisfies, LISTS};
     use crate::clauses::File;
+    use crate::components::components;
     use crate::decode::{decode, Decoded};
 
     #[test]
     fn planned_values_satisfy_the_list() {
         let mut random = Random::new(6);
-        for _ in 0..60 {
+        for round in 0..80 {
             let plan = Plan::with_any_acceptance(&mut random);
             let (n, m) = (plan.core.states() + random.below(2), plan.core.sets);
             let wide = in_other_words(&mut random, &plan.core, m);
-            let values = plan.values(&mut random, &wide, n);
+            let named = LISTS[round % 2];
+            let values = plan.values(&mut random, &wide, n, named);
             let of = Candidates { n, m, acceptance: wide.acceptance };
-            assert!(satisfies(&values, &list(&File::new(&plan.reference, of))));
+            assert!(satisfies(&values, &list(&File::new(&plan.reference, of, named))));
         }
     }
 
-    /// How often each answer of the decoder occurs: table, none, unknown, and the refusals.
-    fn answers(cases: fn(&mut Random) -> SolverCase) -> ([usize; 3], [usize; 13]) {
+    /// How often each answer of the decoder occurs for a list: table, none, unknown, and the refusals.
+    fn answers(cases: fn(&mut Random) -> SolverCase, named: List) -> ([usize; 3], [usize; 13]) {
         let mut random = Random::new(7);
         let (mut said, mut refused) = ([0; 3], [0; 13]);
-        for _ in 0..1500 {
+        for _ in 0..4000 {
             let case = cases(&mut random);
-            match decode(&case.reference, case.n as u64, case.m as u64, case.named, &case.text[..]) {
+            if case.profile.list != named {
+                continue;
+            }
+            match decode(&case.reference, case.profile, &case.text[..]) {
                 Ok(Decoded::Table(_)) => said[0] += 1,
                 Ok(Decoded::None) => said[1] += 1,
                 Ok(Decoded::Unknown) => said[2] += 1,
@@ -433,12 +487,79 @@ mod tests {
 
     #[test]
     fn all_answers_of_the_decoder_occur() {
-        let (said, refused) = answers(solver_case);
-        assert!(said.iter().all(|&times| times > 50), "{said:?}");
-        assert!(refused[8..].iter().all(|&times| times > 20), "{refused:?}");
-        let (said, refused) = answers(profile_case);
-        assert!(said[0] > 300 && said.iter().all(|&times| times > 50), "{said:?}");
-        assert!(refused[8..].iter().chain([&refused[4]]).all(|&times| times > 20), "{refused:?}");
+        for named in LISTS {
+            let (said, refused) = answers(solver_case, named);
+            assert!(said.iter().all(|&times| times > 50), "{said:?}");
+            assert!(refused[8..].iter().all(|&times| times > 20), "{refused:?}");
+            let (said, refused) = answers(profile_case, named);
+            assert!(said[0] > 300 && said.iter().all(|&times| times > 50), "{said:?}");
+            assert!(refused[8..].iter().chain([&refused[4]]).all(|&times| times > 20), "{refused:?}");
+        }
+    }
+
+    /// Texts that are answered otherwise where the other list is named.
+    #[test]
+    fn the_list_matters() {
+        let mut random = Random::new(12);
+        let mut count = [0, 0];
+        for _ in 0..2000 {
+            let case = solver_case(&mut random);
+            let read = |list: List| decode(&case.reference, Profile { list, ..case.profile }, &case.text[..]);
+            let differs = read(List::First) != read(List::Second);
+            count[(case.profile.list == List::Second) as usize] += differs as usize;
+        }
+        assert!(count.iter().all(|&times| times > 50), "{count:?}");
+    }
+
+    /// How many references have one component and several states, have several components, have a state outside
+    /// any cycle, have a component whose states do not follow one another, and have a state that the start
+    /// does not reach.
+    fn shapes(references: &[Automaton]) -> [usize; 5] {
+        let mut count = [0; 5];
+        for reference in references {
+            let component = components(&reference.destinations());
+            let states = 0..reference.states();
+            let one = states.clone().all(|u| component[u] == component[0]);
+            let lone = |u: usize| states.clone().all(|v| v == u || component[v] != component[u]);
+            let outside = states.clone().any(|u| lone(u) && reference.table[u].iter().all(|edge| edge.to != u));
+            let parted =
+                |u: usize, v: usize| component[u] == component[v] && (u..v).any(|w| component[w] != component[u]);
+            let between = states.clone().any(|u| states.clone().any(|v| parted(u, v)));
+            let mut reached = vec![false; reference.states()];
+            let mut open = vec![reference.start];
+            while let Some(u) = open.pop() {
+                if !std::mem::replace(&mut reached[u], true) {
+                    open.extend(reference.table[u].iter().map(|edge| edge.to));
+                }
+            }
+            let told = [one && reference.states() > 1, !one, outside, between, reached.contains(&false)];
+            (0..5).for_each(|shape| count[shape] += told[shape] as usize);
+        }
+        count
+    }
+
+    #[test]
+    fn references_have_several_components() {
+        let mut random = Random::new(14);
+        let solver: Vec<Automaton> = (0..600).map(|_| solver_case(&mut random).reference).collect();
+        let profile: Vec<Automaton> = (0..600).map(|_| profile_case(&mut random).reference).collect();
+        let lists: Vec<Automaton> = (0..600).map(|_| lists_case(&mut random).0).collect();
+        for references in [solver, profile, lists] {
+            let [one, several, outside, between, unreached] = shapes(&references);
+            let all = [one, several, outside, between, unreached];
+            assert!(one > 60 && several > 300 && outside > 120 && between > 20 && unreached > 60, "{all:?}");
+        }
+    }
+
+    #[test]
+    fn both_lists_are_small() {
+        let mut random = Random::new(15);
+        for _ in 0..300 {
+            let (reference, profile) = lists_case(&mut random);
+            assert!((2..=4).contains(&reference.states()) && reference.propositions() < 3 && reference.sets < 3);
+            let Candidates { n, m, .. } = profile.judged().unwrap();
+            assert!((1..=2).contains(&n) && m < 3);
+        }
     }
 
     #[test]
@@ -447,9 +568,9 @@ mod tests {
         let (mut all, mut others, mut references) = (0, std::collections::BTreeSet::new(), 0);
         for _ in 0..600 {
             let case = profile_case(&mut random);
-            match case.named {
+            match case.profile.acceptance {
                 Named::InfOfAll => all += 1,
-                Named::Number(number) => drop(others.insert((case.m, number))),
+                Named::Number(number) => drop(others.insert((case.profile.m, number))),
             }
             let case = solver_case(&mut random);
             references += (case.reference.acceptance != inf_of_all(case.reference.sets)) as usize;

@@ -2,16 +2,16 @@
 //! which the first one is compared. It shares no code with it.
 //!
 //!     normalize < FILE
-//!     clauses N M < REFERENCE
+//!     clauses N M [LIST] < REFERENCE
 //!     compare FIRST SECOND
 //!     check FIRST SECOND PRINTED
-//!     decode REFERENCE N M < SOLVER-OUTPUT
-//!     check-decode REFERENCE N M PRINTED < SOLVER-OUTPUT
-//!     profile clauses N M 1 ACCEPTANCE transitions < REFERENCE
-//!     profile decode REFERENCE N M 1 ACCEPTANCE transitions < SOLVER-OUTPUT
+//!     decode REFERENCE N M [LIST] < SOLVER-OUTPUT
+//!     check-decode REFERENCE N M [LIST] PRINTED < SOLVER-OUTPUT
+//!     profile clauses N M 1|2 ACCEPTANCE transitions < REFERENCE
+//!     profile decode REFERENCE N M 1|2 ACCEPTANCE transitions < SOLVER-OUTPUT
 //!     search REFERENCE [ANSWER-FILE ..]
 //!     check-search REFERENCE PRINTED [ANSWER-FILE ..]
-//!     generate hoa|pairs|solver|profile|search SEED COUNT DIRECTORY
+//!     generate hoa|pairs|solver|profile|lists|search SEED COUNT DIRECTORY
 //!     against PROGRAMS SEED COUNT DIRECTORY
 //!
 //! A refusal is one line `refused NUMBER A B` on standard output. The three `check` calls read
@@ -23,6 +23,7 @@ mod automaton;
 mod check;
 mod clauses;
 mod compare;
+mod components;
 mod decode;
 mod formula;
 mod generate;
@@ -31,13 +32,14 @@ mod generate_formula;
 mod generate_hoa;
 mod generate_solver;
 mod hoa;
+mod numbering;
 mod printed;
 mod product;
 mod search;
 mod solver;
 mod word;
 
-use automaton::{Automaton, Candidates, Named, Refusal};
+use automaton::{Automaton, List, Named, Profile, Refusal};
 use printed::{comparison_text, decoded_text, refusal_text, search_text};
 use std::io::{self, BufWriter, Read, Write};
 use std::{env, fs, process};
@@ -57,20 +59,29 @@ impl From<Refusal> for Problem {
 
 type Printed = Result<Vec<u8>, Problem>;
 
+type Arguments = Result<Profile, Problem>;
+
 fn main() {
     let arguments: Vec<String> = env::args().skip(1).collect();
     let words: Vec<&str> = arguments.iter().map(String::as_str).collect();
     let printed = match words[..] {
         ["normalize"] => normalize(),
-        ["clauses", n, m] => print_clauses(n, m, "all"),
-        ["profile", "clauses", n, m, "1", acceptance, "transitions"] => print_clauses(n, m, acceptance),
+        ["clauses", n, m] => print_clauses(profile(n, m, "1", "all")),
+        ["clauses", n, m, list] => print_clauses(profile(n, m, list, "all")),
+        ["profile", "clauses", n, m, list @ ("1" | "2"), acceptance, "transitions"] => {
+            print_clauses(profile(n, m, list, acceptance))
+        }
         ["compare", first, second] => compare_files(first, second),
         ["check", first, second, printed] => check_compare(first, second, printed),
-        ["decode", reference, n, m] => decode_input(reference, n, m, "all"),
-        ["profile", "decode", reference, n, m, "1", acceptance, "transitions"] => {
-            decode_input(reference, n, m, acceptance)
+        ["decode", reference, n, m] => decode_input(reference, profile(n, m, "1", "all")),
+        ["decode", reference, n, m, list] => decode_input(reference, profile(n, m, list, "all")),
+        ["profile", "decode", reference, n, m, list @ ("1" | "2"), acceptance, "transitions"] => {
+            decode_input(reference, profile(n, m, list, acceptance))
         }
-        ["check-decode", reference, n, m, printed] => check_decode(reference, n, m, printed),
+        ["check-decode", reference, n, m, printed] => check_decode(reference, profile(n, m, "1", "all"), printed),
+        ["check-decode", reference, n, m, list, printed] => {
+            check_decode(reference, profile(n, m, list, "all"), printed)
+        }
         ["search", reference, ref answers @ ..] => search_answers(reference, answers),
         ["check-search", reference, printed, ref answers @ ..] => check_search(reference, printed, answers),
         ["generate", kind, seed, count, directory] => generate_files(kind, seed, count, directory),
@@ -122,6 +133,11 @@ fn acceptance(word: &str) -> Result<Named, Problem> {
     }
 }
 
+fn profile(n: &str, m: &str, list: &str, named: &str) -> Arguments {
+    let (n, m, acceptance) = (number(n)?, number(m)?, acceptance(named)?);
+    Ok(Profile { n, m, acceptance, list: List::of_argument(list) })
+}
+
 fn automaton(name: &str) -> Result<Automaton, Problem> {
     Ok(hoa::read(&file(name)?)?)
 }
@@ -133,13 +149,13 @@ fn normalize() -> Printed {
     Ok(hoa::write(&hoa::read(&input()?)?))
 }
 
-fn print_clauses(n: &str, m: &str, named: &str) -> Printed {
-    let (n, m, named) = (number(n)?, number(m)?, acceptance(named)?);
+fn print_clauses(profile: Arguments) -> Printed {
+    let profile = profile?;
     let reference = hoa::read(&input()?)?;
-    let of = Candidates::judged(n, m, named)?;
+    let of = profile.judged()?;
     let mut out = BufWriter::with_capacity(1 << 16, io::stdout().lock());
     // A reader that has gone away needs nothing more.
-    let _ = clauses::File::new(&reference, of).print(&mut out).and_then(|()| out.flush());
+    let _ = clauses::File::new(&reference, of, profile.list).print(&mut out).and_then(|()| out.flush());
     Ok(Vec::new())
 }
 
@@ -149,9 +165,9 @@ fn compare_files(first: &str, second: &str) -> Printed {
     Ok(comparison_text(&comparison).into_bytes())
 }
 
-fn decode_input(reference: &str, n: &str, m: &str, named: &str) -> Printed {
-    let (n, m, named) = (number(n)?, number(m)?, acceptance(named)?);
-    Ok(decoded_text(&decode::decode(&automaton(reference)?, n, m, named, io::stdin().lock())?))
+fn decode_input(reference: &str, profile: Arguments) -> Printed {
+    let profile = profile?;
+    Ok(decoded_text(&decode::decode(&automaton(reference)?, profile, io::stdin().lock())?))
 }
 
 fn search_answers(reference: &str, answers: &[&str]) -> Printed {
@@ -184,9 +200,8 @@ fn check_compare(first: &str, second: &str, printed: &str) -> Printed {
     verdict(check::check_compare(&file(first)?, &file(second)?, &file(printed)?))
 }
 
-fn check_decode(reference: &str, n: &str, m: &str, printed: &str) -> Printed {
-    let (n, m) = (number(n)?, number(m)?);
-    verdict(check::check_decode(&file(reference)?, n, m, Named::InfOfAll, &input()?, &file(printed)?))
+fn check_decode(reference: &str, profile: Arguments, printed: &str) -> Printed {
+    verdict(check::check_decode(&file(reference)?, profile?, &input()?, &file(printed)?))
 }
 
 fn check_search(reference: &str, printed: &str, answers: &[&str]) -> Printed {

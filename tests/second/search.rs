@@ -27,7 +27,8 @@ impl<'a> Search<'a> {
         if self.finished {
             return Ok(());
         }
-        match decode(self.reference, self.n as u64, self.m as u64, Named::InfOfAll, text)? {
+        let profile = Profile::with_inf_of_all(self.n as u64, self.m as u64, List::First);
+        match decode(self.reference, profile, text)? {
             Decoded::Table(table) => self.found(table),
             Decoded::None => self.none(),
             Decoded::Unknown => self.unknown(),
@@ -191,6 +192,24 @@ mod tests {
         // The steps alone: no set is met, and Inf of all accepts nothing either.
         search.answer(b"s SATISFIABLE\nv 2 3 0\n").unwrap();
         assert_eq!((search.best.states(), search.best.acceptance), (2, 0b10));
+    }
+
+    /// "Stored solver answers belong to the first list": its V counts, and an answer to the second list, which
+    /// has the same steps and marks and a smaller V, is in form too.
+    #[test]
+    fn answers_to_either_list() {
+        // State 0 leads to 1, which stays and meets the set. One state and one set: step 1, mark 2, and 16
+        // paths in the first list, 8 in the second.
+        let mut reference = round(2, 1);
+        reference.table[1][0].to = 1;
+        let told = |last: &str| {
+            let mut search = Search::new(&reference);
+            search.answer(format!("s SATISFIABLE\nv 1 2 {last} 0\n").as_bytes())?;
+            assert_eq!((asked(&search), search.best), ((0, 1, true, false), round(1, 1)));
+            Ok(())
+        };
+        assert_eq!(["10", "11", "-18"].map(told), [Ok(()); 3]);
+        assert_eq!(told("19"), Err(Refusal::new(10, 20, 0)));
     }
 
     #[test]

@@ -1,6 +1,8 @@
 // Sets of at most 16 letters, states or marks as numbers: bit i for i.
 ghost use mathlib.Core.Path.{_≡_};
+ghost use Prim.Native.Nat.{_≤_, min};
 ghost use Rattle.meaning.specs.BitSet.{has};
+ghost use Rattle.meaning.specs.Counting.{«how-many»};
 ghost use Rattle.bits.specs.Sets.{Lowest, single};
 
 // How many numbers a set can hold.
@@ -37,4 +39,15 @@ pub fn single(i: usize) -> u16
         return 0;
     }
     1 << i
+}
+
+// How many numbers of a set are below k.
+pub fn below(set: u16, k: usize) -> usize
+    ensures is { λ r. ⌜ r ≡ «how-many» (min k 16) (has set) ⌝ }
+    ensures bounded { λ r. ⌜ r ≤ 16 ⌝ }
+{
+    if k >= MEMBERS {
+        return u16::count_ones(set) as usize;
+    }
+    u16::count_ones(set % (1 << k)) as usize
 }

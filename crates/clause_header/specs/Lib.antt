@@ -1,3 +1,4 @@
 pub mod Sums
+pub mod SharingCount
 pub mod ClosureCount
 pub mod Header

@@ -11,9 +11,10 @@ use lib.ListN.{length}
 use Rattle.decimal.specs.Wrote.{Wrote}
 use Rattle.clause_sizes.specs.declared.Sizes.{Sizes}
 use Rattle.clause_sizes.specs.Sizes.{Fitting}
+use Rattle.clause_sizes.specs.Numbers.{InFile}
 use Rattle.clause_sizes.specs.Conjunctions.{both, less}
 use Rattle.clause_indices.specs.declared.Indices.{Indices}
-use Rattle.clause_indices.specs.Indices.{Within, PremiseIfAny, premiseOf, clauseRoom}
+use Rattle.clause_indices.specs.Indices.{Within, PremiseIfAny, pathAt, premiseOf, clauseRoom}
 
 pub within-test : (z : Sizes) → Fitting z → (x : Indices)
     → (((((((((ltb (x .q .0) (z .candidate .states) && ltb (x .p .0) (z .candidate .states)) && ltb (x .t .0) (z .candidate .states)) && ltb (x .u .0) (z .reference .states))
@@ -42,8 +43,8 @@ within-test z f x =
     )
 
 module _ {z : Sizes} {x : Indices} {d : List ℤ} where
-  pub no-premise : ¬ (Fitting z × Within z x × (clauseRoom ≤ length d)) → PremiseIfAny z x d d 0
-  no-premise h = record { there = λ f w l. absurd (h (f, w, l)); none = λ n. (refl, refl) }
+  pub no-premise : ¬ (Fitting z × Within z x × InFile z (pathAt x) × (clauseRoom ≤ length d)) → PremiseIfAny z x d d 0
+  no-premise h = record { there = λ f w i l. absurd (h (f, w, i, l)); none = λ n. (refl, refl) }
 
-  pub a-premise : {e : List ℤ} {r : ℕ} → Fitting z → Within z x → clauseRoom ≤ length d → Wrote d 0 (premiseOf z x) e r → PremiseIfAny z x d e r
-  a-premise f w l h = record { there = λ _ _ _. h; none = λ n. absurd (n (f, w, l)) }
+  pub a-premise : {e : List ℤ} {r : ℕ} → Fitting z → Within z x → InFile z (pathAt x) → clauseRoom ≤ length d → Wrote d 0 (premiseOf z x) e r → PremiseIfAny z x d e r
+  a-premise f w i l h = record { there = λ _ _ _ _. h; none = λ n. absurd (n (f, w, i, l)) }

@@ -8,11 +8,11 @@ use lib.IntN.{ℤ, pos, negℤ}
 use lib.ListN.{length, getD}
 use Rattle.meaning.specs.BitSet.{has}
 use Rattle.decimal.specs.Wrote.{Wrote}
-use Rattle.encoding.specs.Variables.{step, mark, path}
+use Rattle.encoding.specs.Variables.{Var, step, mark, path}
 use Rattle.encoding.specs.Clauses.{each}
 use Rattle.clause_sizes.specs.declared.Sizes.{Sizes}
 use Rattle.clause_sizes.specs.Sizes.{Fitting}
-use Rattle.clause_sizes.specs.Numbers.{numberOf}
+use Rattle.clause_sizes.specs.Numbers.{InFile, numberOf}
 use Rattle.clause_indices.specs.declared.Indices.{Indices}
 use Rattle.clause_indices.specs.declared.extent.Extent.{Extent}
 
@@ -31,6 +31,10 @@ pub record Within (z : Sizes) (x : Indices) : Type 0 where
   pub i-lt : x .i < 2 ^ z .candidate .sets
   pub j-lt : x .j < 2 ^ z .reference .sets
   pub k-lt : x .k < 2 ^ z .candidate .sets
+
+-- the first path that a clause of groups 3 and 4 names
+abbrev pub pathAt : Indices → Var
+pathAt x = path (x .q .0) (x .u .0) (x .p .0) (x .v .0) (x .i) (x .j)
 
 abbrev pub nowhere : Indices
 nowhere = record { q = record { 0 = 0 }; p = record { 0 = 0 }; t = record { 0 = 0 }; u = record { 0 = 0 }; v = record { 0 = 0 }; l = 0; i = 0; j = 0; k = 0 }
@@ -112,11 +116,11 @@ marksOf z p l t K k = each k λ i. markLiteral z p l t K i ∷ []
 -- "-path(q,u,p,v,I,J), -step(p,l,t)", and the marks; in group 4 all of the clause
 abbrev pub premiseOf : Sizes → Indices → List ℤ
 premiseOf z x =
-    negℤ (pos (numberOf z (path (x .q .0) (x .u .0) (x .p .0) (x .v .0) (x .i) (x .j))))
+    negℤ (pos (numberOf z (pathAt x)))
     ∷ negℤ (pos (numberOf z (step (x .p .0) (x .l) (x .t .0))))
     ∷ marksOf z (x .p .0) (x .l) (x .t .0) (x .k) (z .candidate .sets)
 
--- on all input: these at the start of the buffer, or nothing where no file of these sizes has the indices, or where there is no room
+-- on all input: these at the start of the buffer, or nothing where no file of these sizes has the indices or the path, or where there is no room
 pub record PremiseIfAny (z : Sizes) (x : Indices) (d e : List ℤ) (r : ℕ) : Type 0 where
-  pub there : Fitting z → Within z x → clauseRoom ≤ length d → Wrote d 0 (premiseOf z x) e r
-  pub none : ¬ (Fitting z × Within z x × (clauseRoom ≤ length d)) → (e ≡ d) × (r ≡ 0)
+  pub there : Fitting z → Within z x → InFile z (pathAt x) → clauseRoom ≤ length d → Wrote d 0 (premiseOf z x) e r
+  pub none : ¬ (Fitting z × Within z x × InFile z (pathAt x) × (clauseRoom ≤ length d)) → (e ≡ d) × (r ≡ 0)

@@ -17,11 +17,11 @@ ghost use lib.ListN.{length};
 ghost use Rattle.encoding.specs.Variables.{mark};
 ghost use Rattle.decimal.specs.Wrote.{Wrote};
 ghost use Rattle.clause_sizes.specs.Sizes.{Fitting};
-ghost use Rattle.clause_sizes.specs.Numbers.{InFile};
-ghost use Rattle.clause_indices.specs.Indices.{Within, PremiseIfAny, markLiteral, marksOf, premiseOf, clauseRoom};
+ghost use Rattle.clause_sizes.specs.Numbers.{InFile, Numbered};
+ghost use Rattle.clause_indices.specs.Indices.{Within, PremiseIfAny, pathAt, markLiteral, marksOf, premiseOf, clauseRoom};
 
 // -path(q, u, p, v, I, J), -step(p, l, t), and the marks of p, l, t against K. All of group 4's clause, where t = q and u is the
-// reference's step from v by l. Nothing where no file of these sizes has the indices, or where there is no room.
+// reference's step from v by l. Nothing where no file of these sizes has the indices or the path, or where there is no room.
 pub fn premise(z: Sizes, x: Indices, out: &mut [i32]) -> usize
     ensures { λ r. ⌜ PremiseIfAny z x (now (out .entry)) (now (out .exit)) r ⌝ }
 {
@@ -34,7 +34,11 @@ pub fn premise(z: Sizes, x: Indices, out: &mut [i32]) -> usize
     if !within(z, x) {
         return 0;
     }
-    literals(z, x, out)
+    let path = path_variable(z, x.q, x.u, x.p, x.v, x.i, x.j);
+    if path == 0 {
+        return 0;
+    }
+    literals(z, x, path, out)
 }
 
 // Whether the indices are in their ranges.
@@ -62,13 +66,14 @@ fn within(z: Sizes, x: Indices) -> bool
         & (x.k < own)
 }
 
-fn literals(z: Sizes, x: Indices, out: &mut [i32]) -> usize
+// `path` is the number of path(q, u, p, v, I, J).
+fn literals(z: Sizes, x: Indices, path: usize, out: &mut [i32]) -> usize
     requires { ⌜ Fitting z ⌝ }
-    requires { ⌜ Within z x ⌝ }
+    requires { ⌜ Within z x × Numbered z (pathAt x) path ⌝ }
     requires { ⌜ clauseRoom ≤ length (now out) ⌝ }
     ensures { λ r. ⌜ Wrote (now (out .entry)) 0 (premiseOf z x) (now (out .exit)) r ⌝ }
 {
-    out[0] = negative(path_variable(z, x.q, x.u, x.p, x.v, x.i, x.j));
+    out[0] = negative(path);
     out[1] = negative(step_variable(z, x.p, x.l, x.t));
     marks(z, x.p, x.l, x.t, x.k, out)
 }

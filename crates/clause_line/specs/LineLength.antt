@@ -8,8 +8,6 @@ use native.Mathlib.Omega.{arith}
 use lib.IntN.{ℤ, pos, negsuc, negℤ, natAbs}
 use lib.ListN.{length, length-append}
 use Rattle.meaning.specs.Automata.{Aut, WellFormed}
-use Rattle.meaning.specs.BitSet.{has}
-use Rattle.meaning.specs.MarkSets.{set-of-same}
 use Rattle.automaton.specs.declared.Automaton.{Automaton}
 use Rattle.automaton.specs.Value.{Valid}
 use Rattle.automaton.specs.View.{view}
@@ -27,10 +25,11 @@ use Rattle.clause_sizes.specs.Targets.{named, Proper, task, numbers, file}
 use Rattle.clause_sizes.specs.declared.Sizes.{Sizes}
 use Rattle.clause_sizes.specs.Numbers.{numberOf}
 use Rattle.clause_sizes.specs.Sizes.{targetOf}
-use Rattle.clause_sizes.specs.Limits.{sizes-fit, last-le}
+use Rattle.clause_sizes.specs.Limits.{sizes-fit, last-le, file-variables}
 use Rattle.clause_list.specs.Tables.{tabled, taskOf, Tables}
 use Rattle.clause_list.specs.Next.{handed, next-clause, clauses-from}
-use Rattle.clause_list.specs.Following.{from-in-file, found-in-file}
+use Rattle.clause_list.specs.Following.{from-in-file, found-in-file, same-next}
+use Rattle.clause_list.specs.Rows.{tables-formed, tables-posed, numbers-tabled, variables-tabled}
 use Rattle.clause_step.specs.Step.{found-from}
 use Rattle.clause_words.specs.Text.{literalText, lineText}
 
@@ -86,13 +85,16 @@ pub found-line-le : (z : Sizes) (start : ℕ) (destinations marks : List ℕ) �
     → {c : List ℤ} {y : ℕ} (x : ℕ) → next-clause (taskOf z start destinations marks) (numberOf z) x ≡ handed c y → length (lineText c) ≤ 80
 found-line-le z start destinations marks tables h {c} x e =
     let f = tables .fits in
-    file-line-le (tabled z start destinations marks) (named (targetOf z))
-    (record { start-lt = h; step-lt = tables .step-lt; own-sets = λ S T e. ap (has (z .reference .acceptance)) (set-of-same (z .reference .sets) S T e) })
-    (f .n-some) (f .n-le) (f .m-le) (last-le f) c (found-in-file (taskOf z start destinations marks) (numberOf z) x e)
+    let T = taskOf z start destinations marks in
+    let R = tabled z start destinations marks in
+    let t = named (targetOf z) in
+    let same = same-next (tables-posed tables h) (numberOf z) (numberFor R t) (numbers-tabled tables start) x in
+    file-line-le R t (tables-formed tables h) (f .n-some) (f .n-le) (f .m-le) (subst (λ k. k ≤ 4_199_424) (variables-tabled tables start) (last-le f)) c
+    (found-in-file T (numberFor R t) x (sym same ∙ e))
 
 module _ {a : Automaton} {τ : Target} (v : Valid a) (t : Proper τ) where
   reference-line-le : (c : List ℤ) → List·Memᴰ c (file a τ) → length (lineText c) ≤ 80
-  reference-line-le = let f = sizes-fit v t in file-line-le (view a) (named τ) (view-formed v) (f .n-some) (f .n-le) (f .m-le) (last-le f)
+  reference-line-le = let f = sizes-fit v t in file-line-le (view a) (named τ) (view-formed v) (f .n-some) (f .n-le) (f .m-le) (subst (λ k. k ≤ 4_199_424) (file-variables τ v) (last-le f))
 
   -- the line of a clause that is handed out, or is left, of the file for a reference
   pub step-line-le : (x : ℕ) {c : List ℤ} {y : ℕ} → found-from a τ x ≡ handed c y → length (lineText c) ≤ 80

@@ -1,7 +1,8 @@
--- The search for the next clause, position by position.
-use mathlib.Core.Path.{_≡_, refl, _∙_, subst}
-use mathlib.Core.List.{List}
-use Prim.Native.Nat.{ℕ, _+_, _≤_, _<_}
+-- The search for the next clause, from position to position.
+use mathlib.Core.Path.{_≡_, refl, ap, _∙_, subst}
+use mathlib.Core.List.{List, []}
+use Prim.Native.Nat.{ℕ, _+_, _-_, _≤_, _<_}
+use native.Mathlib.Decide.{ℕ-discrete}
 use native.Mathlib.Omega.{arith}
 use lib.IntN.{ℤ}
 use lib.ListN.{length}
@@ -10,12 +11,14 @@ use Rattle.decimal.specs.Wrote.{Wrote}
 use Rattle.clause_sizes.specs.declared.Sizes.{Sizes}
 use Rattle.clause_sizes.specs.Numbers.{numberOf}
 use Rattle.clause_indices.specs.declared.extent.Extent.{Extent}
-use Rattle.clause_list.specs.Tables.{taskOf}
+use Rattle.clause_list.specs.Tables.{taskOf, Tables}
 use Rattle.clause_list.specs.Position.{Stands, one, none}
 use Rattle.clause_indices.specs.Indices.{ExtentOf}
 use Rattle.clause_list.specs.Next.{next-clause}
-use Rattle.clause_list.specs.Following.{next-skip, next-here, next-end}
+use Rattle.clause_list.specs.Following.{next-over, next-here, next-end}
+use Rattle.clause_list.specs.Gaps.{absent-empty}
 use Rattle.clause_list.specs.Handing.{Hands, clause, nothing}
+use Rattle.clause_list.specs.Stretches.{Onward}
 
 module _ (z : Sizes) (start : ℕ) (destinations marks : List ℕ) where
   -- before the clause at x is looked at: no clause from `from` on to x, and nothing written
@@ -32,12 +35,22 @@ module _ {z : Sizes} {start : ℕ} {destinations marks : List ℕ} where
     within h = omega (arith, k .all-is, k .first-is, k .second-is, k .third-is)
 
     module _ {e : List ℤ} {r : ℕ} (h : x < g .all) (s : Stands o (at-position (taskOf z start destinations marks) (numberOf z) x) e r) where
-      pub waiting-more : r ≡ 0 → Waiting z start destinations marks from (x + 1) d e
-      waiting-more e₀ = go s
+      -- no clause stands at x, nor further on before y
+      pub waiting-more : r ≡ 0 → {y : ℕ} → Tables z destinations marks → Onward z g destinations x y → Waiting z start destinations marks from y d e
+      waiting-more e₀ {y} tables (past, to, gap) = go s
         where
-          go : Stands o (at-position (taskOf z start destinations marks) (numberOf z) x) e r → Waiting z start destinations marks from (x + 1) d e
+          go : Stands o (at-position (taskOf z start destinations marks) (numberOf z) x) e r → Waiting z start destinations marks from y d e
           go (one c q v l) = absurd (omega arith)
-          go (none q v l) = record { same = w .same ∙ next-skip _ (numberOf z) x (within h) q; untouched = v ∙ w .untouched }
+          go (none q v l) =
+              let over = next-over (taskOf z start destinations marks) (numberOf z) (y - x) x (omega (arith, k .all-is, k .first-is, k .second-is, k .third-is))
+              (λ i h u. by-place i (ℕ-discrete i x) h (omega arith) q) in
+              let e : x + (y - x) ≡ y = omega arith in
+              record { same = w .same ∙ over ∙ ap (next-clause (taskOf z start destinations marks) (numberOf z)) e; untouched = v ∙ w .untouched }
+            where
+              by-place : (i : ℕ) → Dec (i ≡ x) → x ≤ i → i < y → at-position (taskOf z start destinations marks) (numberOf z) x ≡ []
+                  → at-position (taskOf z start destinations marks) (numberOf z) i ≡ []
+              by-place i (yes p) h u q = ap (at-position (taskOf z start destinations marks) (numberOf z)) p ∙ q
+              by-place i (no p) h u q = absent-empty start tables k (gap i (omega arith) u)
 
       pub waiting-here : 0 < r
           → Hands (next-clause (taskOf z start destinations marks) (numberOf z) from) d e (record { length = r; position = x + 1 })

@@ -1,6 +1,6 @@
 -- How a position is taken apart.
 use mathlib.Core.Path.{_≡_, refl, sym, ap, ap₂, _∙_, subst}
-use mathlib.Core.Bool.{true, false}
+use mathlib.Core.Bool.{Bool, true, false, _&&_}
 use mathlib.Core.List.{List}
 use Prim.Native.Nat.{ℕ, _+_, _*_, _/_, _%_, _^_, _<_}
 use native.Mathlib.Nat.{mod-lt}
@@ -13,6 +13,8 @@ use Rattle.encoding.specs.Numbering.{split}
 use Rattle.decimal.specs.Wrote.{Wrote}
 use Rattle.clause_sizes.specs.declared.Sizes.{Sizes}
 use Rattle.clause_sizes.specs.Sizes.{Fitting}
+use Rattle.clause_sizes.specs.Numbers.{keptIn}
+use Rattle.clause_variables.specs.Kept.{KeptIfAny}
 use Rattle.clause_indices.specs.declared.Indices.{Indices}
 use Rattle.clause_indices.specs.declared.extent.Extent.{Extent}
 use Rattle.clause_list.specs.declared.digits.Marking.{Marking}
@@ -21,7 +23,7 @@ use Rattle.clause_indices.specs.Indices.{Within, ExtentIfAny, EntryIfAny, Indic
 use Rattle.clause_list.specs.Groups.{Successive, successorOf, extensionOf}
 use Rattle.clause_list.specs.Tables.{StepsWithin, Tables}
 use Rattle.clause_list.specs.Digits.{MarkingOf, TransitionOf, closureIndices}
-use Rattle.clause_list.specs.Position.{Stands, none, one, successorAt, extensionAt, closureAt, disagree}
+use Rattle.clause_list.specs.Position.{Stands, none, one, successorAt, extensionAt, sharedAt, extensionsAt, closureAt, disagree}
 
 module _ (z : Sizes) where
   -- the indices of groups 3 and 4, from what is left of a position after its sets of marks and its transition
@@ -51,6 +53,10 @@ module _ (z : Sizes) where
     k = k;
   }
 
+-- a row of the reference
+pub kept-is : {z : Sizes} {u v : ℕ} {b : Bool} → Fitting z → u < z .reference .states → KeptIfAny z u v b → b ≡ keptIn z u v
+kept-is f h k = k .there (omega (arith, f .r-le))
+
 -- a table's entry
 pub entry-is : {table : List ℕ} {u l r : ℕ} → (u < 16) × (l < 16) → EntryIfAny table u l r → r ≡ getD table (u * 16 + l) 0
 entry-is (hu, hl) e = e .there hu hl
@@ -79,6 +85,13 @@ module _ {z : Sizes} where
   pub transition-lt : {x : ℕ} {a : Transition} → Fitting z → TransitionOf z x a → (a .v .0 < 16) × (a .l < 16)
   transition-lt {x} f e =
       (omega (arith, e .v-is, mod-lt (x / z .letters) (f .r-some), f .r-le), omega (arith, e .l-is, mod-lt x (f .letters-some), f .letters-le))
+
+  pub step-lt : {x w : ℕ} {a : Transition} → Fitting z → (destinations : List ℕ) → StepsWithin z destinations → TransitionOf z x a
+      → w ≡ getD destinations (a .v .0 * 16 + a .l) 0 → w < 16
+  step-lt {x} f destinations steps e d =
+      let v : _ < z .reference .states = subst (λ k. k < z .reference .states) (sym (e .v-is)) (mod-lt (x / z .letters) (f .r-some)) in
+      let l : _ < z .letters = subst (λ k. k < z .letters) (sym (e .l-is)) (mod-lt x (f .letters-some)) in
+      omega (arith, d, steps _ _ v l, f .r-le)
 
   pub extension-is : {a : Marking} {b : Transition} (x : ℕ) → MarkingOf z x a → TransitionOf z (a .rest) b
       → extended z (b .rest) (b .v .0) (b .l) (a .i) (a .j) (a .k) ≡ extensionIndices z x
@@ -148,19 +161,40 @@ module _ (z : Sizes) (destinations marks : List ℕ) where
       subst (λ c. Wrote d 0 c e r)
       (ap₂ (extensionOf z i) p s ∙ ap (λ i. extensionOf z i (getD destinations (i .v .0 * 16 + i .l) 0) (getD marks (i .v .0 * 16 + i .l) 0)) q)
 
+  shared-is : {w : ℕ} {i : Indices} {b c : Bool} (x : ℕ) → i ≡ extensionIndices z x → w ≡ getD destinations (i .v .0 * 16 + i .l) 0
+      → b ≡ keptIn z (i .u .0) (i .v .0) → c ≡ keptIn z (i .u .0) w → (b && c) ≡ sharedAt z destinations x
+  shared-is {i} x q p k l =
+      ap₂ _&&_ k (l ∙ ap (keptIn z (i .u .0)) p)
+      ∙ ap (λ (i : Indices). keptIn z (i .u .0) (i .v .0) && keptIn z (i .u .0) (getD destinations (i .v .0 * 16 + i .l) 0)) q
+
+  pub extension-none : {w : ℕ} {i : Indices} {b c : Bool} {d : List ℤ} (x : ℕ) → i ≡ extensionIndices z x → w ≡ getD destinations (i .v .0 * 16 + i .l) 0
+      → b ≡ keptIn z (i .u .0) (i .v .0) → c ≡ keptIn z (i .u .0) w → (b && c) ≡ false → Stands d (extensionsAt z destinations marks x) d 0
+  unfolding only
+  extension-none x q p k l t = none (ap (λ b. only b (extensionAt z destinations marks x)) (sym (shared-is x q p k l) ∙ t)) refl refl
+
+  pub extension-stands : {w f : ℕ} {i : Indices} {b c : Bool} {d e : List ℤ} {r : ℕ} (x : ℕ) → i ≡ extensionIndices z x
+      → w ≡ getD destinations (i .v .0 * 16 + i .l) 0 → f ≡ getD marks (i .v .0 * 16 + i .l) 0
+      → b ≡ keptIn z (i .u .0) (i .v .0) → c ≡ keptIn z (i .u .0) w → (b && c) ≡ true
+      → Wrote d 0 (extensionOf z i w f) e r → Stands d (extensionsAt z destinations marks x) e r
+  unfolding only
+  extension-stands x q p s k l t h =
+      let w = extension-written x q p s h in
+      one (extensionAt z destinations marks x) (ap (λ b. only b (extensionAt z destinations marks x)) (sym (shared-is x q p k l) ∙ t)) w (omega (arith, w .next))
+
   -- ---- group 4
 
-  module _ (x : ℕ) {f : ℕ} {i : Indices} (q : i ≡ closureIndices z destinations x) (p : f ≡ getD marks (i .v .0 * 16 + i .l) 0) where
-    closure-test : only (disagree z (i .i ∪ i .k) (i .j ∪ f)) (premiseOf z i) ≡ closureAt z destinations marks x
+  module _ (x : ℕ) {f : ℕ} {i : Indices} {b : Bool} (q : i ≡ closureIndices z destinations x) (p : f ≡ getD marks (i .v .0 * 16 + i .l) 0)
+      (k : b ≡ keptIn z (i .u .0) (i .v .0)) where
+    closure-test : only (b && disagree z (i .i ∪ i .k) (i .j ∪ f)) (premiseOf z i) ≡ closureAt z destinations marks x
     closure-test =
-        ap (λ f. only (disagree z (i .i ∪ i .k) (i .j ∪ f)) (premiseOf z i)) p
-        ∙ ap (λ i. only (disagree z (i .i ∪ i .k) (i .j ∪ getD marks (i .v .0 * 16 + i .l) 0)) (premiseOf z i)) q
+        ap₂ (λ b f. only (b && disagree z (i .i ∪ i .k) (i .j ∪ f)) (premiseOf z i)) k p
+        ∙ ap (λ (i : Indices). only (keptIn z (i .u .0) (i .v .0) && disagree z (i .i ∪ i .k) (i .j ∪ getD marks (i .v .0 * 16 + i .l) 0)) (premiseOf z i)) q
 
-    pub closure-none : {d : List ℤ} → disagree z (i .i ∪ i .k) (i .j ∪ f) ≡ false → Stands d (closureAt z destinations marks x) d 0
+    pub closure-none : {d : List ℤ} → (b && disagree z (i .i ∪ i .k) (i .j ∪ f)) ≡ false → Stands d (closureAt z destinations marks x) d 0
     unfolding only
     closure-none t = none (sym closure-test ∙ ap (λ b. only b (premiseOf z i)) t) refl refl
 
-    pub closure-written : {d e : List ℤ} {r : ℕ} → disagree z (i .i ∪ i .k) (i .j ∪ f) ≡ true → Wrote d 0 (premiseOf z i) e r
+    pub closure-written : {d e : List ℤ} {r : ℕ} → (b && disagree z (i .i ∪ i .k) (i .j ∪ f)) ≡ true → Wrote d 0 (premiseOf z i) e r
         → Stands d (closureAt z destinations marks x) e r
     unfolding only
     closure-written t w = one (premiseOf z i) (sym closure-test ∙ ap (λ b. only b (premiseOf z i)) t) w (omega (arith, w .next))

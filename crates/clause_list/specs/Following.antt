@@ -3,14 +3,17 @@ use mathlib.Core.Path.{_≡_, refl, sym, ap, ap₂, _∙_, subst}
 use mathlib.Core.List.{List, [], _∷_, _++_, List·Memᴰ, List·Memᴰ·head}
 use Prim.Native.Nat.{ℕ, zero, suc, _+_, _-_, _≤_, _<_}
 use native.Mathlib.Nat.{le-of-suc-le-suc, not-suc-le-zero}
+use native.Mathlib.Decide.{decLe}
 use native.Mathlib.Omega.{arith}
 use lib.IntN.{ℤ}
 use lib.ListN.{length}
-use Rattle.encoding.specs.Variables.{Task, Var}
+use Rattle.encoding.specs.Variables.{Task, Var, Present}
 use Rattle.encoding.specs.Clauses.{each, file}
 use Rattle.encoding.specs.Loops.{each-same, each-add, each-in, each-elim}
 use Rattle.encoding.specs.Positions.{positions, at-position}
 use Rattle.encoding.specs.ByPosition.{by-position, at-most-one}
+use Rattle.encoding.specs.WellPosed.{WellPosed}
+use Rattle.encoding.specs.SameNumbers.{same-position}
 use Rattle.clause_list.specs.Next.{Found, handed, ended, here-or, search-from, next-clause, clauses-from}
 
 module _ (T : Task) (num : Var → ℕ) where
@@ -55,6 +58,12 @@ module _ (T : Task) (num : Var → ℕ) where
 
   pub next-skip : (x : ℕ) → x < all → at x ≡ [] → next-clause T num x ≡ next-clause T num (x + 1)
   next-skip x h e = next-more x h ∙ ap (λ cs. here-or cs (x + 1) (next-clause T num (x + 1))) e
+
+  -- over a stretch where nothing stands
+  pub next-over : (k x : ℕ) → x + k ≤ all → ((i : ℕ) → x ≤ i → i < x + k → at i ≡ []) → next-clause T num x ≡ next-clause T num (x + k)
+  next-over zero x h e = ap (next-clause T num) (omega arith)
+  next-over (suc k) x h e =
+      next-skip x (omega arith) (e x (omega arith) (omega arith)) ∙ next-over k (x + 1) (omega arith) (λ i g l. e i (omega arith) (omega arith)) ∙ ap (next-clause T num) (omega arith)
 
   pub next-here : (x : ℕ) {c : List ℤ} → x < all → at x ≡ c ∷ [] → next-clause T num x ≡ handed c (x + 1)
   next-here x h e = next-more x h ∙ ap (λ cs. here-or cs (x + 1) (next-clause T num (x + 1))) e
@@ -105,6 +114,28 @@ module _ (T : Task) (num : Var → ℕ) where
   unfolding next-clause
   next-le bound x h l = search-le bound (all - x) x refl h l
 
+  -- and they rise
+
+  abbrev pub After : ℕ → Found → Type 0
+  After x (handed c y) = x < y
+  After x (ended y) = x ≤ y
+
+  after-weaker : (x : ℕ) (f : Found) → After (x + 1) f → After x f
+  after-weaker x (handed c y) h = omega arith
+  after-weaker x (ended y) h = omega arith
+
+  here-after : (x : ℕ) (cs : List (List ℤ)) (later : Found) → After (x + 1) later → After x (here-or cs (x + 1) later)
+  here-after x [] later h = after-weaker x later h
+  here-after x (c ∷ cs) later h = omega arith
+
+  search-after : (k x : ℕ) → After x (search-from at k x)
+  search-after zero x = omega arith
+  search-after (suc k) x = here-after x (at x) (search-from at k (x + 1)) (search-after k (x + 1))
+
+  pub next-after : (x : ℕ) → After x (next-clause T num x)
+  unfolding next-clause
+  next-after x = search-after (all - x) x
+
   -- ---- what is found is a clause of the file
 
   pub from-in-file : {c : List ℤ} (x : ℕ) → List·Memᴰ c (clauses-from T num x) → List·Memᴰ c (file T num)
@@ -115,3 +146,23 @@ module _ (T : Task) (num : Var → ℕ) where
   found-in-file {c} {y} x e =
       let f : First (clauses-from T num x) (handed c y) = subst (First (clauses-from T num x)) e (next-first x) in
       from-in-file x (subst (List·Memᴰ c) (sym f) (List·Memᴰ·head refl))
+
+-- ---- the same, where two numberings give the variables that there are the same numbers
+
+module _ {T : Task} (W : WellPosed T) (num other : Var → ℕ) (same : (x : Var) → Present T x → num x ≡ other x) where
+  search-same : (k x : ℕ) → x + k ≤ positions T num → search-from (at-position T num) k x ≡ search-from (at-position T other) k x
+  search-same zero x h = refl
+  search-same (suc k) x h =
+      ap₂ (λ (cs : List (List ℤ)) (later : Found). here-or cs (x + 1) later) (same-position W num other same x (omega arith)) (search-same k (x + 1) (omega arith))
+
+  pub same-next : (x : ℕ) → next-clause T num x ≡ next-clause T other x
+  unfolding next-clause
+  same-next x = go (decLe x (positions T num))
+    where
+      go : Dec (x ≤ positions T num) → search-from (at-position T num) (positions T num - x) x ≡ search-from (at-position T other) (positions T num - x) x
+      go (yes h) = search-same (positions T num - x) x (omega arith)
+      go (no h) = let e : positions T num - x ≡ 0 = omega arith in ap (λ k. search-from (at-position T num) k x) e ∙ sym (ap (λ k. search-from (at-position T other) k x) e)
+
+  pub same-from : (x : ℕ) → clauses-from T num x ≡ clauses-from T other x
+  unfolding clauses-from
+  same-from x = each-same (positions T num - x) _ _ (λ i h. same-position W num other same (x + i) (omega arith))

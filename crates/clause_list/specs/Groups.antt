@@ -3,7 +3,7 @@
 use mathlib.Core.List.{List, [], _∷_, _++_}
 use Prim.Native.Nat.{ℕ, _<_}
 use lib.IntN.{ℤ, pos, negℤ}
-use Rattle.encoding.specs.Variables.{step, path}
+use Rattle.encoding.specs.Variables.{Var, step, path}
 use Rattle.encoding.specs.Clauses.{each, _∪_}
 use Rattle.clause_sizes.specs.declared.Sizes.{Sizes}
 use Rattle.clause_sizes.specs.Numbers.{numberOf}
@@ -28,6 +28,9 @@ abbrev pub successorOf : Sizes → (q p u l w : ℕ) → List ℤ
 successorOf z q p u l w =
     negℤ (pos (numberOf z (path q u q u 0 0))) ∷ negℤ (pos (numberOf z (step q l p))) ∷ pos (numberOf z (path p w p w 0 0)) ∷ []
 
+-- "then path(q,u,t,w,I∪K,J∪F)"
+abbrev pub lastPath : Indices → (w F : ℕ) → Var
+lastPath x w F = path (x .q .0) (x .u .0) (x .t .0) w (x .i ∪ x .k) (x .j ∪ F)
+
 abbrev pub extensionOf : Sizes → Indices → (w F : ℕ) → List ℤ
-extensionOf z x w F =
-    premiseOf z x ++ (pos (numberOf z (path (x .q .0) (x .u .0) (x .t .0) w (x .i ∪ x .k) (x .j ∪ F))) ∷ [])
+extensionOf z x w F = premiseOf z x ++ (pos (numberOf z (lastPath x w F)) ∷ [])

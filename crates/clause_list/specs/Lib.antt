@@ -1,9 +1,12 @@
 pub mod Tables
+pub mod Rows
 pub mod Measured
 pub mod Groups
 pub mod Digits
 pub mod Position
 pub mod Standing
+pub mod Gaps
+pub mod Stretches
 pub mod Next
 pub mod Following
 pub mod Handing

@@ -1,6 +1,6 @@
 -- What stands at a position, by group, and that it is what stands there in the file.
-use mathlib.Core.Path.{_≡_, refl, ap, ap₂, _∙_}
-use mathlib.Core.Bool.{Bool, xor}
+use mathlib.Core.Path.{_≡_, refl, sym, ap, ap₂, _∙_}
+use mathlib.Core.Bool.{Bool, _&&_, xor}
 use mathlib.Core.List.{List, [], _∷_}
 use Prim.Native.Nat.{ℕ, _+_, _*_, _/_, _%_, _^_, _<_}
 use lib.Bits.{or-lt}
@@ -13,7 +13,7 @@ use Rattle.encoding.specs.Clauses.{_∪_, only, marks-of, exactly-one, totality
 use Rattle.encoding.specs.Positions.{at₁, successor-at, at₃, at₄}
 use Rattle.decimal.specs.Wrote.{Wrote}
 use Rattle.clause_sizes.specs.declared.Sizes.{Sizes}
-use Rattle.clause_sizes.specs.Numbers.{numberOf}
+use Rattle.clause_sizes.specs.Numbers.{keptIn, numberOf}
 use Rattle.clause_list.specs.Tables.{tabled, taskOf, Tables}
 use Rattle.clause_list.specs.Groups.{totalityOf, initialOf, successorOf, extensionOf}
 use Rattle.clause_indices.specs.Indices.{premiseOf, extensions, closures, extensionIndices}
@@ -43,14 +43,27 @@ extensionAt z destinations marks x =
     let at = i .v .0 * 16 + i .l in
     extensionOf z i (getD destinations at 0) (getD marks at 0)
 
+-- "Group 3 keeps a clause only if u, v and w share a component", by the rows: u has paths to v and to w
+abbrev pub sharedAt : Sizes → List ℕ → ℕ → Bool
+sharedAt z destinations x =
+    let i = extensionIndices z x in
+    keptIn z (i .u .0) (i .v .0) && keptIn z (i .u .0) (getD destinations (i .v .0 * 16 + i .l) 0)
+
+abbrev pub extensionsAt : Sizes → List ℕ → List ℕ → ℕ → List (List ℤ)
+extensionsAt z destinations marks x = only (sharedAt z destinations x) (extensionAt z destinations marks x)
+
 -- the two acceptances say different things of a set of candidate marks and of one of reference marks
 abbrev pub disagree : Sizes → ℕ → ℕ → Bool
 disagree z candidate reference = xor (has (z .candidate .acceptance) candidate) (has (z .reference .acceptance) reference)
 
+-- "and group 4 only if v and w do", w being the u of the indices; and where the acceptances disagree
+abbrev pub closesAt : Sizes → List ℕ → ℕ → Bool
+closesAt z destinations x = let i = closureIndices z destinations x in keptIn z (i .u .0) (i .v .0)
+
 abbrev pub closureAt : Sizes → List ℕ → List ℕ → ℕ → List (List ℤ)
 closureAt z destinations marks x =
     let i = closureIndices z destinations x in
-    only (disagree z (i .i ∪ i .k) (i .j ∪ getD marks (i .v .0 * 16 + i .l) 0)) (premiseOf z i)
+    only (closesAt z destinations x && disagree z (i .i ∪ i .k) (i .j ∪ getD marks (i .v .0 * 16 + i .l) 0)) (premiseOf z i)
 
 module _ (z : Sizes) (start : ℕ) (destinations marks : List ℕ) where
   abbrev T : Task
@@ -72,12 +85,18 @@ module _ (z : Sizes) (start : ℕ) (destinations marks : List ℕ) where
     marks-is : (v l : ℕ) → v < z .reference .states → l < z .letters → marks-of (tabled z start destinations marks) v l ≡ getD marks (v * 16 + l) 0
     marks-is v l hv hl = set-of-has (z .reference .sets) (getD marks (v * 16 + l) 0) (tables .marks-lt v l hv hl)
 
-    pub at₃-is : (x : ℕ) → x < extensions z → at₃ T (numberOf z) x ≡ extensionAt z destinations marks x ∷ []
-    unfolding at₃ extension not-marks only
+    -- what is kept, by the rows
+    kept-is : (u v : ℕ) → u < z .reference .states → v < z .reference .states → taskOf z start destinations marks .kept u v ≡ keptIn z u v
+    kept-is u v hu hv = sym (tables .rowed start .sets-are u v hu hv)
+
+    pub at₃-is : (x : ℕ) → x < extensions z → at₃ T (numberOf z) x ≡ extensionsAt z destinations marks x
+    unfolding at₃ extension not-marks
     at₃-is x h =
         let w = extension-within z x h in
         let i = extensionIndices z x in
-        ap (λ F. extensionOf z i (getD destinations (i .v .0 * 16 + i .l) 0) F ∷ []) (marks-is (i .v .0) (i .l) (w .v-lt) (w .l-lt))
+        ap₂ (λ b c. only b c)
+        (ap₂ _&&_ (kept-is (i .u .0) (i .v .0) (w .u-lt) (w .v-lt)) (kept-is (i .u .0) (getD destinations (i .v .0 * 16 + i .l) 0) (w .u-lt) (tables .step-lt _ _ (w .v-lt) (w .l-lt))))
+        (ap (λ F. extensionOf z i (getD destinations (i .v .0 * 16 + i .l) 0) F) (marks-is (i .v .0) (i .l) (w .v-lt) (w .l-lt)))
 
     -- "where the two acceptances disagree on I∪K and J∪F", by the two masks
     pub exactly-one-is : (v l I J K : ℕ) → v < z .reference .states → l < z .letters → I < 2 ^ z .candidate .sets → J < 2 ^ z .reference .sets → K < 2 ^ z .candidate .sets
@@ -96,4 +115,6 @@ module _ (z : Sizes) (start : ℕ) (destinations marks : List ℕ) where
     at₄-is x h =
         let w = closure-within z destinations marks tables x h in
         let i = closureIndices z destinations x in
-        ap (λ b. only b (premiseOf z i)) (exactly-one-is (i .v .0) (i .l) (i .i) (i .j) (i .k) (w .v-lt) (w .l-lt) (w .i-lt) (w .j-lt) (w .k-lt))
+        ap (λ b. only b (premiseOf z i))
+        (ap₂ _&&_ (kept-is (i .u .0) (i .v .0) (w .u-lt) (w .v-lt))
+        (exactly-one-is (i .v .0) (i .l) (i .i) (i .j) (i .k) (w .v-lt) (w .l-lt) (w .i-lt) (w .j-lt) (w .k-lt)))

@@ -10,7 +10,7 @@ use Rattle.clause_indices.specs.declared.extent.Extent.{Extent}
 use Rattle.clause_list.specs.Tables.{taskOf, Tables}
 use Rattle.clause_list.specs.Groups.{totalityOf, initialOf}
 use Rattle.clause_indices.specs.Indices.{extensions, closures, ExtentOf}
-use Rattle.clause_list.specs.Position.{successorAt, extensionAt, closureAt, at₁-is, initial-is, successor-is, at₃-is, at₄-is}
+use Rattle.clause_list.specs.Position.{successorAt, extensionsAt, closureAt, at₁-is, initial-is, successor-is, at₃-is, at₄-is}
 
 -- two loops one after the other
 then-yes : {A : Type 0} {a x : ℕ} (f g : ℕ → List A) → x < a → then-at a f g x ≡ f x
@@ -47,7 +47,7 @@ module _ (z : Sizes) (start : ℕ) (destinations marks : List ℕ) {g : Extent} 
       ∙ then-no _ _ (subst (λ a. a ≤ y) (k .second-is) l) (subst (λ a. t ≡ y - a) (k .second-is) f)
 
   pub at-extension : {x y t : ℕ} → g .first ≤ x → y ≡ x - g .first → g .second ≤ y → t ≡ y - g .second → t < g .third
-      → at-position (taskOf z start destinations marks) (numberOf z) x ≡ extensionAt z destinations marks t ∷ []
+      → at-position (taskOf z start destinations marks) (numberOf z) x ≡ extensionsAt z destinations marks t
   at-extension {t} h e l f i =
       let j = subst (λ a. t < a) (k .third-is) i in
       after-second h e l f ∙ then-yes _ _ j ∙ at₃-is z start destinations marks tables t j

@@ -8,12 +8,14 @@ use clause_literals::positive;
 use clause_sizes::Sizes;
 use clause_variables::path_variable;
 use clause_variables::step_variable;
-ghost use Prim.Native.Nat.{_^_, _≤_, _<_};
+ghost use Prim.Native.Nat.{_≤_, _<_};
 ghost use lib.ListN.{length};
 ghost use Rattle.decimal.specs.Wrote.{Wrote};
 ghost use Rattle.clause_sizes.specs.Sizes.{Fitting};
-ghost use Rattle.clause_indices.specs.Indices.{Within, clauseRoom};
-ghost use Rattle.clause_list.specs.Groups.{Successive, totalityOf, initialOf, successorOf, extensionOf};
+ghost use Rattle.encoding.specs.Variables.{path};
+ghost use Rattle.clause_sizes.specs.Numbers.{InFile};
+ghost use Rattle.clause_indices.specs.Indices.{Within, pathAt, clauseRoom};
+ghost use Rattle.clause_list.specs.Groups.{Successive, totalityOf, initialOf, successorOf, lastPath, extensionOf};
 
 // Group 1: the steps from q by l.
 pub fn totality(z: Sizes, q: CandidateState, l: usize, out: &mut [i32]) -> usize
@@ -32,7 +34,7 @@ pub fn totality(z: Sizes, q: CandidateState, l: usize, out: &mut [i32]) -> usize
 // Group 2, its first clause.
 pub fn initial(z: Sizes, start: ReferenceState, out: &mut [i32]) -> usize
     requires { ⌜ Fitting z ⌝ }
-    requires { ⌜ (start .0 < z .reference .states) × (clauseRoom ≤ length (now out)) ⌝ }
+    requires { ⌜ InFile z (path 0 (start .0) 0 (start .0) 0 0) × (clauseRoom ≤ length (now out)) ⌝ }
     ensures { λ r. ⌜ Wrote (now (out .entry)) 0 (initialOf z (start .0)) (now (out .exit)) r ⌝ }
 {
     out[0] = positive(path_variable(z, CandidateState(0), start, CandidateState(0), start, 0, 0));
@@ -51,7 +53,7 @@ pub fn successor(
 ) -> usize
     requires { ⌜ Fitting z ⌝ }
     requires { ⌜ Successive z (q .0) (p .0) (u .0) l (w .0) ⌝ }
-    requires { ⌜ clauseRoom ≤ length (now out) ⌝ }
+    requires { ⌜ InFile z (path (q .0) (u .0) (q .0) (u .0) 0 0) × InFile z (path (p .0) (w .0) (p .0) (w .0) 0 0) × (clauseRoom ≤ length (now out)) ⌝ }
     ensures { λ r. ⌜ Wrote (now (out .entry)) 0 (successorOf z (q .0) (p .0) (u .0) l (w .0)) (now (out .exit)) r ⌝ }
 {
     out[0] = negative(path_variable(z, q, u, q, u, 0, 0));
@@ -63,7 +65,7 @@ pub fn successor(
 // Group 3; w is the reference's step from v by l, and f its marks.
 pub fn extension(z: Sizes, x: Indices, w: ReferenceState, f: usize, out: &mut [i32]) -> usize
     requires { ⌜ Fitting z ⌝ }
-    requires { ⌜ Within z x × (w .0 < z .reference .states) × (f < 2 ^ z .reference .sets) ⌝ }
+    requires { ⌜ Within z x × InFile z (pathAt x) × InFile z (lastPath x (w .0) f) ⌝ }
     requires { ⌜ clauseRoom ≤ length (now out) ⌝ }
     ensures { λ r. ⌜ Wrote (now (out .entry)) 0 (extensionOf z x (w .0) f) (now (out .exit)) r ⌝ }
 {

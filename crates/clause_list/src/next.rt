@@ -1,4 +1,5 @@
 // The next clause from a position on.
+use crate::gaps::after;
 use crate::position::clause_at;
 use automaton::Automaton;
 use automaton::states::ReferenceState;
@@ -35,13 +36,13 @@ pub fn next_clause(
     let mut x = from;
     while x < g.all {
         let length = clause_at(z, g, start, destinations, marks, x, out);
-        x += 1;
         if length > 0 {
             return Next {
                 length,
-                position: x,
+                position: x + 1,
             };
         }
+        x = after(z, g, destinations, x);
     }
     Next {
         length: 0,

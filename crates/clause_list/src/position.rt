@@ -15,17 +15,18 @@ use clause_indices::entry;
 use clause_indices::extent::Extent;
 use clause_indices::premise::premise;
 use clause_sizes::Sizes;
+use clause_variables::kept;
 ghost use mathlib.Core.Path.{_≡_};
 ghost use Prim.Native.Nat.{_≤_, _<_};
 ghost use lib.ListN.{length};
 ghost use Rattle.encoding.specs.Positions.{«at-position»};
 ghost use Rattle.clause_sizes.specs.Sizes.{Fitting};
 ghost use Rattle.clause_sizes.specs.Numbers.{numberOf};
-ghost use Rattle.clause_list.specs.Tables.{StepsWithin, taskOf, Tables};
+ghost use Rattle.clause_list.specs.Tables.{StepsWithin, NodePaths, taskOf, Tables};
 ghost use Rattle.clause_indices.specs.Indices.{extensions, closures, successors, ExtentOf, clauseRoom};
 ghost use Rattle.clause_list.specs.Digits.{closureIndices};
 ghost use Rattle.decimal.specs.Wrote.{Wrote};
-ghost use Rattle.clause_list.specs.Position.{Stands, successorAt, extensionAt, closureAt, disagree};
+ghost use Rattle.clause_list.specs.Position.{Stands, successorAt, extensionsAt, closureAt, disagree};
 
 // Writes the clause at position x, where there is one, and returns how many literals it has; else nothing, and 0.
 pub fn clause_at(
@@ -60,7 +61,7 @@ pub fn clause_at(
 
 // Group 2 after its first clause.
 fn successor_at(z: Sizes, destinations: &[u8; Automaton::CELLS], x: usize, out: &mut [i32]) -> usize
-    requires { ⌜ Fitting z × StepsWithin z (now destinations) ⌝ }
+    requires { ⌜ Fitting z × StepsWithin z (now destinations) × NodePaths z ⌝ }
     requires { ⌜ (x < successors z) × (clauseRoom ≤ length (now out)) ⌝ }
     ensures { λ r. ⌜ Wrote (now (out .entry)) 0 (successorAt z (now (destinations .entry)) x) (now (out .exit)) r ⌝ }
 {
@@ -82,13 +83,17 @@ fn extension_at(
 ) -> usize
     requires { ⌜ Tables z (now destinations) (now marks) ⌝ }
     requires { ⌜ (x < extensions z) × (clauseRoom ≤ length (now out)) ⌝ }
-    ensures { λ r. ⌜ Wrote (now (out .entry)) 0 (extensionAt z (now (destinations .entry)) (now (marks .entry)) x) (now (out .exit)) r ⌝ }
+    ensures { λ r. ⌜ Stands (now (out .entry)) (extensionsAt z (now (destinations .entry)) (now (marks .entry)) x) (now (out .exit)) r ⌝ }
 {
     let indices = indices_of(z, x);
+    let u = indices.u;
     let v = indices.v;
-    let w = entry(destinations, v, indices.l);
+    let w = ReferenceState(entry(destinations, v, indices.l));
+    if !(kept(z, u, v) & kept(z, u, w)) {
+        return 0;
+    }
     let f = entry(marks, v, indices.l);
-    extension(z, indices, ReferenceState(w), f, out)
+    extension(z, indices, w, f, out)
 }
 
 // Group 4.
@@ -104,9 +109,10 @@ fn closure_at(
     ensures { λ r. ⌜ Stands (now (out .entry)) (closureAt z (now (destinations .entry)) (now (marks .entry)) x) (now (out .exit)) r ⌝ }
 {
     let indices = closure_indices(z, destinations, x);
+    let w = indices.u;
     let v = indices.v;
     let f = entry(marks, v, indices.l);
-    if !disagree(z, indices.i | indices.k, indices.j | f) {
+    if !(kept(z, w, v) & disagree(z, indices.i | indices.k, indices.j | f)) {
         return 0;
     }
     premise(z, indices, out)

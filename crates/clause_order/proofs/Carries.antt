@@ -1,4 +1,4 @@
--- The position after one, by its indices.
+-- The position after one, and the first of the next letter and of the next state, by their indices.
 use mathlib.Core.Path.{_≡_, refl, sym, ap, _∙_, subst}
 use Prim.Native.Nat.{ℕ, _+_, _*_, _/_, _%_, _^_, _≤_, _<_}
 use native.Mathlib.Nat.{mod-eq-of-lt}
@@ -34,10 +34,10 @@ module _ (z : Sizes) where
   S = 2 ^ z .reference .sets
 
   -- the position with the sets I, J and K in part a of group 3, where a part has all other indices alike
-  abbrev at-sets : (a I J K : ℕ) → ℕ
+  abbrev pub at-sets : (a I J K : ℕ) → ℕ
   at-sets a I J K = ((a * M + I) * S + J) * M + K
 
-  abbrev with-sets : (a I J K : ℕ) → Indices
+  abbrev pub with-sets : (a I J K : ℕ) → Indices
   with-sets a I J K =
       let b = a / L / r / r in
       record {
@@ -52,14 +52,14 @@ module _ (z : Sizes) where
         k = K;
       }
 
-  sets-indices : (a I J K : ℕ) → I < M → J < S → K < M → extensionIndices z (at-sets a I J K) ≡ with-sets a I J K
+  pub sets-indices : (a I J K : ℕ) → I < M → J < S → K < M → extensionIndices z (at-sets a I J K) ≡ with-sets a I J K
   sets-indices a I J K hi hj hk = simp (digits-div, digits-mod)
 
-  sets-lt : (a I J K : ℕ) → a < n * n * n * r * r * L → I < M → J < S → K < M → at-sets a I J K < extensions z
+  pub sets-lt : (a I J K : ℕ) → a < n * n * n * r * r * L → I < M → J < S → K < M → at-sets a I J K < extensions z
   sets-lt a I J K h hi hj hk = digits-lt (digits-lt (digits-lt h hi) hj) hk
 
   -- a position by its sets
-  record Sets (k : ℕ) : Type 0 where
+  pub record Sets (k : ℕ) : Type 0 where
     pub a : ℕ
     pub I : ℕ
     pub J : ℕ
@@ -71,7 +71,7 @@ module _ (z : Sizes) where
     pub K-lt : K < M
     pub indices : extensionIndices z k ≡ with-sets a I J K
 
-  sets-of : (k : ℕ) → k < extensions z → Sets k
+  pub sets-of : (k : ℕ) → k < extensions z → Sets k
   sets-of k h =
       let c = split k (n * n * n * r * r * L * M * S) M h in
       let b = split (k / M) (n * n * n * r * r * L * M) S (c .0) in
@@ -165,6 +165,47 @@ module _ (z : Sizes) where
       v-up : {b : ℕ} → b ≡ (x .v .0 + 1) % 2 ^ 64 → b ≡ s .a / L % r + 1
       v-up u = up-small (omega (arith, v-split .1, f .r-le)) (u ∙ ap (λ y. (y .v .0 + 1) % 2 ^ 64) e)
 
+      -- the next letter, and the next state, from their first sets on
+      pub letter-next : {l : ℕ} → l ≡ (x .l + 1) % 2 ^ 64 → l < L → (s .a + 1 < n * n * n * r * r * L) × (moved x (x .v .0) l 0 0 0 ≡ with-sets (s .a + 1) 0 0 0)
+      letter-next l-is h =
+          let a = s .a in
+          let c = l-split in
+          let up = l-up l-is in
+          let l-lt : a % L + 1 < L = omega (arith, up) in
+          let a-is : a + 1 ≡ a / L * L + (a % L + 1) = omega (arith, c .2) in
+          let whole : (a + 1) / L ≡ a / L = ap (λ b. b / L) a-is ∙ digits-div (a / L) l-lt in
+          let left : (a + 1) % L ≡ a % L + 1 = ap (λ b. b % L) a-is ∙ digits-mod (a / L) l-lt in (
+            subst (λ b. b < n * n * n * r * r * L) (sym a-is) (digits-lt (c .0) l-lt),
+            ap (λ l. moved x (x .v .0) l 0 0 0) up ∙ ap (λ y. moved y (y .v .0) (a % L + 1) 0 0 0) e
+                ∙ sym (part-indices (a + 1) (a / L / r) (a / L % r) (a % L + 1) (ap (λ b. b / r) whole) (ap (λ b. b % r) whole) left),
+          )
+
+      pub state-next : {v : ℕ} → v ≡ (x .v .0 + 1) % 2 ^ 64 → v < r → ((s .a / L + 1) * L < n * n * n * r * r * L) × (moved x v 0 0 0 0 ≡ with-sets ((s .a / L + 1) * L) 0 0 0)
+      state-next v-is h =
+          let a = s .a in
+          let d = v-split in
+          let up = v-up v-is in
+          let L-some : 0 < L = f .letters-some in
+          let v-lt : a / L % r + 1 < r = omega (arith, up) in
+          let b-is : a / L + 1 ≡ a / L / r * r + (a / L % r + 1) = omega (arith, d .2) in
+          let none : (a / L + 1) * L ≡ (a / L + 1) * L + 0 = omega arith in
+          let whole : (a / L + 1) * L / L ≡ a / L + 1 = ap (λ b. b / L) none ∙ digits-div (a / L + 1) L-some in
+          let left : (a / L + 1) * L % L ≡ 0 = ap (λ b. b % L) none ∙ digits-mod (a / L + 1) L-some in
+          let above : (a / L + 1) / r ≡ a / L / r = ap (λ b. b / r) b-is ∙ digits-div (a / L / r) v-lt in
+          let here : (a / L + 1) % r ≡ a / L % r + 1 = ap (λ b. b % r) b-is ∙ digits-mod (a / L / r) v-lt in
+          let b-lt : a / L + 1 < n * n * n * r * r = subst (λ b. b < n * n * n * r * r) (sym b-is) (digits-lt (d .0) v-lt) in (
+            subst (λ b. b < n * n * n * r * r * L) (sym none) (digits-lt b-lt L-some),
+            ap (λ v. moved x v 0 0 0 0) up ∙ ap (λ y. moved y (a / L % r + 1) 0 0 0 0) e
+                ∙ sym (part-indices ((a / L + 1) * L) (a / L / r) (a / L % r + 1) 0 (ap (λ b. b / r) whole ∙ above) (ap (λ b. b % r) whole ∙ here) left),
+          )
+
+      -- after the last letter comes the next state
+      pub last-letter : {l : ℕ} → l ≡ (x .l + 1) % 2 ^ 64 → L ≤ l → s .a + 1 ≡ (s .a / L + 1) * L
+      last-letter l-is h =
+          let c = l-split in
+          let l-last : L ≡ s .a % L + 1 = omega (arith, c .1, l-up l-is) in
+          omega (arith, c .2, l-last)
+
     -- ---- each index that can rise, after those that start again
 
     module _ {K : ℕ} (K-is : K ≡ (x .k + 1) % 2 ^ 64) where
@@ -197,33 +238,10 @@ module _ (z : Sizes) where
 
             pub next-l : l < L → Follows z x (moved x (x .v .0) l 0 0 0)
             next-l h = follows (λ f k s e g.
-                let a = s .a in
-                let c = l-split f s e in
-                let up = l-up f s e l-is in
-                let l-lt : a % L + 1 < L = omega (arith, up) in
-                let a-is : a + 1 ≡ a / L * L + (a % L + 1) = omega (arith, c .2) in
-                let whole : (a + 1) / L ≡ a / L = ap (λ b. b / L) a-is ∙ digits-div (a / L) l-lt in
-                let left : (a + 1) % L ≡ a % L + 1 = ap (λ b. b % L) a-is ∙ digits-mod (a / L) l-lt in
-                next-at k (a + 1) 0 0 0 (part f s e) (subst (λ b. b < n * n * n * r * r * L) (sym a-is) (digits-lt (c .0) l-lt)) (pow-pos (z .candidate .sets)) (pow-pos (z .reference .sets)) (pow-pos (z .candidate .sets))
-                (ap (λ l. moved x (x .v .0) l 0 0 0) up ∙ ap (λ y. moved y (y .v .0) (a % L + 1) 0 0 0) e
-                ∙ sym (part-indices (a + 1) (a / L / r) (a / L % r) (a % L + 1) (ap (λ b. b / r) whole) (ap (λ b. b % r) whole) left)))
+                let t = letter-next f s e l-is h in
+                next-at k (s .a + 1) 0 0 0 (part f s e) (t .0) (pow-pos (z .candidate .sets)) (pow-pos (z .reference .sets)) (pow-pos (z .candidate .sets)) (t .1))
 
             pub next-v : {v : ℕ} → L ≤ l → v ≡ (x .v .0 + 1) % 2 ^ 64 → Follows z x (moved x v 0 0 0 0)
             next-v hl v-is = follows (λ f k s e g.
-                let a = s .a in
-                let c = l-split f s e in
-                let d = v-split f s e in
-                let up = v-up f s e v-is in
-                let l-last : L ≡ a % L + 1 = omega (arith, c .1, l-up f s e l-is) in
-                let L-some : 0 < L = omega (arith, c .1) in
-                let v-lt : a / L % r + 1 < r = omega (arith, up) in
-                let b-is : a / L + 1 ≡ a / L / r * r + (a / L % r + 1) = omega (arith, d .2) in
-                let a-is : a + 1 ≡ (a / L + 1) * L + 0 = omega (arith, c .2, l-last) in
-                let whole : (a + 1) / L ≡ a / L + 1 = ap (λ b. b / L) a-is ∙ digits-div (a / L + 1) L-some in
-                let left : (a + 1) % L ≡ 0 = ap (λ b. b % L) a-is ∙ digits-mod (a / L + 1) L-some in
-                let above : (a / L + 1) / r ≡ a / L / r = ap (λ b. b / r) b-is ∙ digits-div (a / L / r) v-lt in
-                let here : (a / L + 1) % r ≡ a / L % r + 1 = ap (λ b. b % r) b-is ∙ digits-mod (a / L / r) v-lt in
-                let b-lt : a / L + 1 < n * n * n * r * r = subst (λ b. b < n * n * n * r * r) (sym b-is) (digits-lt (d .0) v-lt) in
-                next-at k (a + 1) 0 0 0 (part f s e) (subst (λ b. b < n * n * n * r * r * L) (sym a-is) (digits-lt b-lt L-some)) (pow-pos (z .candidate .sets)) (pow-pos (z .reference .sets)) (pow-pos (z .candidate .sets))
-                (ap (λ v. moved x v 0 0 0 0) up ∙ ap (λ y. moved y (a / L % r + 1) 0 0 0 0) e
-                ∙ sym (part-indices (a + 1) (a / L / r) (a / L % r + 1) 0 (ap (λ b. b / r) whole ∙ above) (ap (λ b. b % r) whole ∙ here) left)))
+                let t = state-next f s e v-is g in
+                next-at k ((s .a / L + 1) * L) 0 0 0 (part f s e ∙ ap (λ a. at-sets a 0 0 0) (last-letter f s e l-is hl)) (t .0) (pow-pos (z .candidate .sets)) (pow-pos (z .reference .sets)) (pow-pos (z .candidate .sets)) (t .1))

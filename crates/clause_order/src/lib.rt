@@ -5,6 +5,8 @@ use clause_sizes::Sizes;
 use std::num::wrapping_add_usize;
 ghost use Rattle.clause_order.specs.Follows.{Follows};
 
+pub mod passing;
+
 // The indices of the position after x's. At the end of the block the new v is no state. Sums wrap, so that no index is too large.
 pub fn following(z: Sizes, x: Indices) -> Indices
     ensures { λ r. ⌜ Follows z x r ⌝ }

@@ -1,2 +1,3 @@
 pub mod Laws
+pub mod KeptSets
 pub mod Tested

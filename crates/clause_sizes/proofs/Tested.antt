@@ -28,10 +28,10 @@ module _ (z : Sizes) where
   pub letters-test : ((leb 1 (z .letters) && leb (z .letters) 16) ≡ true) ↔ ((1 ≤ z .letters) × (z .letters ≤ 16))
   letters-test = both (at-most 1 (z .letters)) (at-most (z .letters) 16)
 
-  pub fitting-test : Counting 8 (z .candidate) → Counting 16 (z .reference) → 1 ≤ z .letters → z .letters ≤ 16
+  pub fitting-test : Counting 8 (z .candidate) → Counting 16 (z .reference) → 1 ≤ z .letters → z .letters ≤ 16 → z .paths .pairs ≤ 256
       → let s = z .candidate .states * z .candidate .states * z .letters in
       ((eqb (z .steps) s && eqb (z .marks) (s + s * z .candidate .sets)) ≡ true) ↔ Fitting z
-  fitting-test c r some le =
+  fitting-test c r some le pairs =
       let s = z .candidate .states * z .candidate .states * z .letters in
       let t = both (equal (z .steps) s) (equal (z .marks) (s + s * z .candidate .sets)) in (
         λ h.
@@ -49,6 +49,7 @@ module _ (z : Sizes) where
               reference-subsets = r .subsets-is;
               steps-is = a;
               marks-is = b ∙ ap (λ x. x + s * z .candidate .sets) (sym a);
+              pairs-le = pairs;
             },
         λ f. t .1 (f .steps-is, f .marks-is ∙ ap (λ x. x + s * z .candidate .sets) (f .steps-is)),
       )

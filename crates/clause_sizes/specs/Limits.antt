@@ -1,23 +1,34 @@
 -- A reference in "The automaton" with a target in its limits has sizes that fit, and their numbers are those of its file; bounds of sizes.
-use mathlib.Core.Path.{_≡_, refl, sym}
+use mathlib.Core.Path.{_≡_, refl, sym, subst}
+use mathlib.Core.Bool.{Bool}
 use native.Mathlib.Omega.{arith}
 use lib.Pow.{pow-pos}
 use Prim.Native.Nat.{ℕ, _+_, _*_, _^_, _≤_}
-use native.Mathlib.Nat.{mul-le-mul}
+use native.Mathlib.Nat.{mul-le-mul, le-trans}
+use lib.Arith.{digits-lt}
+use Rattle.meaning.specs.Counting.{total, how-many}
+use Rattle.meaning.specs.Totals.{total-le, how-many-le}
 use Rattle.acceptance.specs.Laws.{every-set-own}
 use Rattle.automaton.specs.declared.Automaton.{Automaton}
 use Rattle.automaton.specs.Value.{Valid}
 use Rattle.bits.specs.Powers.{power-le}
 use Rattle.automaton.specs.Letters.{letters-le}
-use Rattle.encoding.specs.Named.{tableVariablesFor}
+use Rattle.automaton.specs.View.{view}
+use Rattle.encoding.specs.Variables.{Var, step, mark, Present}
 use Rattle.clause_sizes.specs.declared.Target.{Target}
 use Rattle.clause_sizes.specs.declared.Sizes.{Sizes}
-use Rattle.clause_sizes.specs.Targets.{named, every, Dimensioned, Proper, numbers, last}
-use Rattle.clause_sizes.specs.Sizes.{Fitting, sizesOf, targetOf}
-use Rattle.clause_sizes.specs.Numbers.{counted, numberOf, lastVariable}
+use Rattle.clause_sizes.specs.Targets.{every, Dimensioned, Proper, task, numbers, last}
+use Rattle.clause_sizes.specs.Sizes.{Fitting, sizesOf}
+use Rattle.clause_sizes.specs.Numbers.{InFile, numberOf, lastVariable}
+use Rattle.clause_sizes.specs.SizedNumbers.{numbers-are, variables-are, sizes-rowed}
+
+-- each row holds at most all states
+pairs-square : {a : Automaton} (kept : ℕ → ℕ → Bool) → Valid a → total (a .states) (λ i. how-many (a .states) (kept i)) ≤ 256
+pairs-square {a} kept v =
+    le-trans (total-le (a .states) (a .states) (λ i. how-many (a .states) (kept i)) (λ i h. how-many-le (a .states) (kept i))) (mul-le-mul (v .states-le) (v .states-le))
 
 pub sizes-fit : {a : Automaton} {τ : Target} → Valid a → Proper τ → Fitting (sizesOf a τ)
-sizes-fit {a} v t = record {
+sizes-fit {a} {τ} v t = record {
   n-some = t .dimensioned .n-some;
   n-le = t .dimensioned .n-le;
   m-le = t .dimensioned .m-le;
@@ -30,6 +41,7 @@ sizes-fit {a} v t = record {
   reference-subsets = refl;
   steps-is = refl;
   marks-is = refl;
+  pairs-le = subst (λ k. k ≤ 256) (sym (sizes-rowed τ v .pairs-is)) (pairs-square (task a τ .kept) v);
 }
 
 -- Inf of all sets has no yes past m
@@ -57,33 +69,36 @@ module _ {z : Sizes} (f : Fitting z) where
   pub marks-le : z .marks ≤ 5120
   marks-le = omega (arith, f .marks-is, steps-le, mul-le-mul (square-le (f .n-le) (f .letters-le)) (f .m-le))
 
-  pub table-variables-le : tableVariablesFor (counted z) (named (targetOf z)) ≤ 5120
-  table-variables-le = omega (arith, f .marks-is, f .steps-is, marks-le)
-
   -- V
-  pub states-le : z .candidate .states * z .reference .states ≤ 128
-  states-le = mul-le-mul (f .n-le) (f .r-le)
+  pub squares-le : z .candidate .states * z .candidate .states ≤ 64
+  squares-le = mul-le-mul (f .n-le) (f .n-le)
 
-  pub states-square-le : z .candidate .states * z .reference .states * (z .candidate .states * z .reference .states) ≤ 16384
-  states-square-le = mul-le-mul states-le states-le
+  pub pairs-cap : z .candidate .states * z .candidate .states * z .paths .pairs ≤ 16384
+  pairs-cap = mul-le-mul squares-le (f .pairs-le)
 
   pub markings-le : z .candidate .subsets * z .reference .subsets ≤ 256
   markings-le = mul-le-mul candidate-subsets-le reference-subsets-le
 
-  pub paths-le : z .candidate .states * z .reference .states * (z .candidate .states * z .reference .states) * (z .candidate .subsets * z .reference .subsets) ≤ 4194304
-  paths-le = mul-le-mul states-square-le markings-le
+  pub paths-le : z .candidate .states * z .candidate .states * z .paths .pairs * (z .candidate .subsets * z .reference .subsets) ≤ 4194304
+  paths-le = mul-le-mul pairs-cap markings-le
 
-  pub last-variable-is : z .marks
-      + z .candidate .states * z .reference .states * (z .candidate .states * z .reference .states) * (z .candidate .subsets * z .reference .subsets) ≡ lastVariable z
+  pub last-variable-is : z .marks + z .candidate .states * z .candidate .states * z .paths .pairs * (z .candidate .subsets * z .reference .subsets) ≡ lastVariable z
   last-variable-is = rw (f .marks-is, f .steps-is, f .candidate-subsets, f .reference-subsets) (omega arith)
 
   pub last-le : lastVariable z ≤ 4_199_424
   last-le = omega (arith, sym last-variable-is, marks-le, paths-le)
 
+  -- the step and mark variables
+  pub step-small : (q l p : ℕ) → InFile z (step q l p) → numberOf z (step q l p) ≤ 5120
+  step-small q l p h = omega (arith, f .marks-is, f .steps-is, marks-le, digits-lt (digits-lt (h .0) (h .1)) (h .2))
+
+  pub mark-small : (q l i p : ℕ) → InFile z (mark q l i p) → numberOf z (mark q l i p) ≤ 5120
+  mark-small q l i p h = omega (arith, f .marks-is, f .steps-is, marks-le, digits-lt (digits-lt (digits-lt (h .0) (h .1)) (h .2)) (h .3))
+
 -- ---- the file of a reference
 
-pub file-numbers : (a : Automaton) (τ : Target) → numberOf (sizesOf a τ) ≡ numbers a τ
-file-numbers a τ = refl
+pub file-variables : {a : Automaton} (τ : Target) → Valid a → lastVariable (sizesOf a τ) ≡ last a τ
+file-variables {a} τ v = variables-are (sizesOf a τ) (a .start) (view a .step) (view a .marks) (view a .accept) (sizes-rowed τ v)
 
-pub file-variables : (a : Automaton) (τ : Target) → lastVariable (sizesOf a τ) ≡ last a τ
-file-variables a τ = refl
+pub file-numbers : {a : Automaton} (τ : Target) → Valid a → (x : Var) → Present (task a τ) x → numberOf (sizesOf a τ) x ≡ numbers a τ x
+file-numbers {a} τ v = numbers-are (sizesOf a τ) (a .start) (view a .step) (view a .marks) (view a .accept) (sizes-rowed τ v)

@@ -7,15 +7,26 @@ use Rattle.acceptance.specs.Masks.{everySet, OwnSets}
 use Rattle.automaton.specs.declared.Automaton.{Automaton}
 use Rattle.automaton.specs.View.{view}
 use Rattle.encoding.specs.Variables.{Task, Var}
-use Rattle.encoding.specs.Named.{Named, taskFor, numberFor, variablesFor, tableVariablesFor, fileFor}
+use Rattle.encoding.specs.Named as naming
+use Rattle.encoding.specs.Named.{Named, first, second, taskFor, numberFor, variablesFor, tableVariablesFor, fileFor}
+use Rattle.clause_sizes.specs.declared.Listing.{Listing}
+use Rattle.clause_sizes.specs.declared.Listing.the-variants.{First, Second}
 use Rattle.clause_sizes.specs.declared.Target.{Target}
 
-abbrev pub named : Target → Named
-named τ = record { n = τ .states; m = τ .sets; acceptance = τ .acceptance }
+abbrev pub which : Listing → naming.Listing
+which First = first
+which Second = second
 
--- Inf of all sets: "search and clause program use Inf of all"
+abbrev pub named : Target → Named
+named τ = record { n = τ .states; m = τ .sets; acceptance = τ .acceptance; listing = which (τ .listing) }
+
+-- Inf of all sets, and the first list: "search and clause program use Inf of all"
 abbrev pub every : ℕ → ℕ → Target
-every n m = record { states = n; sets = m; acceptance = everySet m }
+every n m = record { states = n; sets = m; acceptance = everySet m; listing = First }
+
+-- the same with another list: "the caller names which"
+abbrev pub listed : Target → Listing → Target
+listed τ w = record { states = τ .states; sets = τ .sets; acceptance = τ .acceptance; listing = w }
 
 -- "Candidate: n states (1 to 8), m sets (0 to 4)"
 pub record Dimensioned (τ : Target) : Type 0 where

@@ -8,14 +8,14 @@ use Rattle.automaton.specs.declared.Automaton.{Automaton}
 use Rattle.automaton.specs.Value.{Valid}
 use Rattle.bits.specs.Powers.{power-le}
 use Rattle.encoding.specs.Positions.{positions}
-use Rattle.encoding.specs.Named.{taskFor}
+use Rattle.encoding.specs.Named.{first, taskFor}
 use Rattle.clause_sizes.specs.declared.Target.{Target}
 use Rattle.clause_sizes.specs.Targets.{Proper, task, numbers}
 use Rattle.clause_list.specs.Following.{position-of, next-le}
 use Rattle.clause_step.specs.Step.{last-position, found-from}
 
 -- the largest sizes have the largest position
-pub largest-positions : positions (taskFor (record { states = 16; letters = 16; sets = 4; start = 0; step = λ q l. 0; marks = λ q l i. false; accept = λ S. true }) (record { n = 8; m = 4; acceptance = 0 })) (λ x. 0)
+pub largest-positions : positions (taskFor (record { states = 16; letters = 16; sets = 4; start = 0; step = λ q l. 0; marks = λ q l i. false; accept = λ S. true }) (record { n = 8; m = 4; acceptance = 0; listing = first })) (λ x. 0)
     ≡ last-position
 largest-positions = refl
 

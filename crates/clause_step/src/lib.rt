@@ -62,9 +62,11 @@ pub fn step(reference: Automaton, target: Target, position: u64, clause: &mut [i
             position: kept,
         };
     }
-    let sized = measure(reference, target);
-    match sized {
-        Sized::Of(z) => find(reference, z, position, clause),
+    let measured = measure(reference, target);
+    let sizes = measured.sizes;
+    let answer = measured.answer;
+    match answer {
+        Sized::Of(_last) => find(reference, sizes, position, clause),
         Sized::Refused(refusal) => Handed {
             answer: Answer::Refused(refusal),
             position: kept,

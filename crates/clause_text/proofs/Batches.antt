@@ -1,20 +1,24 @@
 -- The next line, and lines one after another.
 use mathlib.Core.Path.{_≡_, refl, sym, ap, _∙_, subst, subst₂}
+use mathlib.Core.Bool.{true, false, _&&_, true≢false}
 use mathlib.Core.Logic.{_≢_, _⊎_, inl, inr}
 use mathlib.Core.List.{List, [], _∷_, _++_, append-nil}
 use Prim.Native.Nat.{ℕ, _+_, _≤_, _<_}
-use native.Mathlib.Decide.{decLt}
+use native.Mathlib.Decide.{decLt, ℕ-discrete}
 use native.Mathlib.Omega.{arith}
+use borrow.Author.Tests.{eq-eqb, eqb-true}
+use lib.Dec.{eqb}
 use lib.IntN.{ℤ}
 use lib.ListN.{length, take, drop, length-append, length-drop}
 use lib.Seq.{take-add, drop-drop, length-take-le}
+use Rattle.meaning.specs.TestLaws.{and-true, and-left, and-right}
 use Rattle.encoding.specs.Variables.{Task, Var}
 use Rattle.encoding.specs.Positions.{positions}
 use Rattle.decimal.specs.Wrote.{Wrote, WroteIfRoom}
 use Rattle.decimal.specs.Writing.{wrote-none, wrote-then, wrote-length, wrote-front}
 use Rattle.clause_list.specs.declared.next.Next.{Next}
 use Rattle.clause_list.specs.Next.{Found, handed, ended, next-clause, clauses-from}
-use Rattle.clause_list.specs.Following.{First, next-first, position-of, next-le}
+use Rattle.clause_list.specs.Following.{First, next-first, position-of, next-le, After, next-after}
 use Rattle.clause_list.specs.Handing as handing
 use Rattle.clause_list.specs.Handing.{Hands}
 use Rattle.clause_text.specs.declared.batch.Filled.{Filled}
@@ -68,6 +72,10 @@ module _ {f : Found} {e : List ℤ} {r : Next} (c : FoundClause f e r) (size : l
 
 -- ---- lines after lines
 
+-- neither the end nor the position has moved
+pub both-same : {a b x y : ℕ} → (eqb a b && eqb x y) ≡ true → (a ≡ b) × (x ≡ y)
+both-same {a} {b} {x} {y} h = (eqb-true a b (and-left (eqb a b) (eqb x y) h), eqb-true x y (and-right (eqb a b) (eqb x y) h))
+
 module _ (T : Task) (num : Var → ℕ) where
   pub lines-none : (x : ℕ) (d : List ℕ) (at : ℕ) → at ≤ length d → Lines T num x d at d at x
   lines-none x d at h = record { count = 0; there = omega arith; text = wrote-none d at h; next = refl; within = λ bound b l. l }
@@ -91,15 +99,29 @@ module _ {T : Task} {num : Var → ℕ} {x : ℕ} {d : List ℕ} {at : ℕ} {e :
   lines-room = omega (arith, s .text .room, wrote-length (s .text))
 
   -- where nothing more is written
-  pub lines-filled : {b : List ℕ} {j v : ℕ} → Further T num y e k b j v → j ≡ k → Lines T num x d at b k v × ((clauses-from T num v ≡ []) ⊎ Longer T num (length d) k v)
-  lines-filled {b} {j} {v} f q =
-      (subst (λ i. Lines T num x d at b i v) q (lines-then (f .lines)), subst (λ size. (clauses-from T num v ≡ []) ⊎ Longer T num size k v) (wrote-length (s .text)) (f .stop q))
+  pub lines-filled : {b : List ℕ} {j v : ℕ} → Further T num y e k b j v → j ≡ k → v ≡ y → Lines T num x d at b k y × ((clauses-from T num y ≡ []) ⊎ Longer T num (length d) k y)
+  lines-filled {b} {j} {v} f q p = (
+    subst₂ (λ i w. Lines T num x d at b i w) q p (lines-then (f .lines)),
+    subst₂ (λ size w. (clauses-from T num w ≡ []) ⊎ Longer T num size k w) (wrote-length (s .text)) p (f .stop q p),
+  )
+
+  -- the position rises where not both it and the end stay
+  pub further-less : {b : List ℕ} {j v : ℕ} → Further T num y e k b j v → (eqb j k && eqb v y) ≡ false → (y < v) × (y < positions T num)
+  further-less {b} {j} {v} f h = go (ℕ-discrete v y) (decLt y (positions T num))
+    where
+      go : Dec (v ≡ y) → Dec (y < positions T num) → (y < v) × (y < positions T num)
+      go (yes p) d = absurd (true≢false (sym (and-true (eq-eqb j k (f .still p)) (eq-eqb v y p)) ∙ h))
+      go (no p) (yes l) = (omega (arith, f .onward), l)
+      go (no p) (no l) = absurd (omega (arith, f .onward, f .lines .within y (omega arith) (omega arith)))
 
 -- ---- the next line, as one line more
 
 module _ (T : Task) (num : Var → ℕ) (x : ℕ) where
   first-here : {f : Found} → next-clause T num x ≡ f → First T num (clauses-from T num x) f
   first-here q = subst (First T num (clauses-from T num x)) q (next-first T num x)
+
+  after-here : {f : Found} → next-clause T num x ≡ f → After T num x f
+  after-here q = subst (After T num x) q (next-after T num x)
 
   within-here : {f : Found} → next-clause T num x ≡ f → (bound : ℕ) → positions T num ≤ bound → x ≤ bound → position-of T num f ≤ bound
   within-here q bound h l = subst (λ f. position-of T num f ≤ bound) q (next-le T num bound x h l)
@@ -123,13 +145,17 @@ module _ (T : Task) (num : Var → ℕ) (x : ℕ) where
 
   pub line-further : {d : List ℕ} {at : ℕ} {e : List ℕ} {r : Filled} → at ≤ length d → NextLine (next-clause T num x) x d at e r
       → Further T num x d at e (r .end) (r .position)
-  line-further h (written c q w) = record { lines = one-line c q w; stop = λ n. absurd (omega (arith, w .next, line-some c)) }
+  line-further h (written c q w) =
+      let l = after-here q in
+      record { lines = one-line c q w; onward = omega arith; still = λ p. absurd (omega arith); stop = λ n p. absurd (omega arith) }
   line-further {d} {at} {r} h (nothing q w n) =
       record {
         lines = subst₂ (λ e k. Lines T num x d at e k (r .position)) (sym w) (sym n) (no-line d at h q);
-        stop = λ i. inl (first-here q .1);
+        onward = after-here q;
+        still = λ p. n;
+        stop = λ i p. inl (first-here q .1);
       }
   line-further {d} {at} {r} h (long c y q l w n p) =
       subst₂ (λ e k. Further T num x d at e k (r .position)) (sym w) (sym n)
       (subst (λ v. Further T num x d at d at v) (sym p)
-      (record { lines = lines-none T num x d at h; stop = λ i. inr (record { clause = c; others = clauses-from T num y; next = first-here q; long = l }) }))
+      (record { lines = lines-none T num x d at h; onward = omega arith; still = λ p. refl; stop = λ i p. inr (record { clause = c; others = clauses-from T num y; next = first-here q; long = l }) }))

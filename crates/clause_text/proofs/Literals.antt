@@ -90,10 +90,10 @@ module _ (z : Sizes) (f : Fitting z) where
 
 module _ {z : Sizes} (f : Fitting z) (minus : Bool) {q u p v I J slot : ℕ} (here : InFile z (path q u p v I J)) (is : slot ≡ pathSlot z v I J) where
   pub slot-lt : slot < 4096
-  slot-lt = rw is (path-slot-lt z f (here .3) (here .4) (here .5))
+  slot-lt = rw is (path-slot-lt z f (here .0 .3) (here .0 .4) (here .0 .5))
 
   pub slot-text : pathTexts z minus q u p slot ≡ spacedText (pathLiteral z minus q u p v I J ∷ [])
-  slot-text = ap (pathTexts z minus q u p) is ∙ path-text z minus q u p v I J (here .4) (here .5)
+  slot-text = ap (pathTexts z minus q u p) is ∙ path-text z minus q u p v I J (here .0 .4) (here .0 .5)
 
   pub path-kept : {variable r : ℕ} {kept sizes g : List ℕ} → Numbered z (path q u p v I J) variable → Kept (pathTexts z minus q u p) 16 4096 kept sizes
       → Wrote kept (slot * 16) (spacedText (signed minus variable ∷ [])) g (slot * 16 + r) → r ≤ 16 → Found (pathTexts z minus q u p) 16 4096 g (set sizes slot r) slot r

@@ -12,7 +12,7 @@ use Rattle.decimal.specs.Wrote.{Wrote}
 use Rattle.clause_sizes.specs.declared.Sizes.{Sizes}
 use Rattle.clause_sizes.specs.Numbers.{numberOf}
 use Rattle.clause_indices.specs.Indices.{marksOf, extensions}
-use Rattle.clause_list.specs.Position.{extensionAt}
+use Rattle.clause_list.specs.Position.{extensionAt, sharedAt, extensionsAt}
 use Rattle.clause_words.specs.Text.{spacedText, lineText, linesText}
 
 abbrev pub signed : Bool → ℕ → ℤ
@@ -54,11 +54,11 @@ module _ (z : Sizes) where
 
   module _ (destinations marks : List ℕ) where
     abbrev pub ExtensionsShort : Type 0
-    ExtensionsShort = (y : ℕ) → y < extensions z → length (lineText (extensionAt z destinations marks y)) ≤ 80
+    ExtensionsShort = (y : ℕ) → y < extensions z → sharedAt z destinations y ≡ true → length (lineText (extensionAt z destinations marks y)) ≤ 80
 
-    -- the lines of the clauses at the positions of group 3 from x on to y
+    -- the lines of the clauses that stand at the positions of group 3 from x on to y
     pub record Extensions (x : ℕ) (d : List ℕ) (at : ℕ) (e : List ℕ) (k y : ℕ) : Type 0 where
       pub count : ℕ
       pub within : x + count ≤ extensions z
-      pub text : Wrote d at (linesText (each count (λ o. extensionAt z destinations marks (x + o) ∷ []))) e k
+      pub text : Wrote d at (linesText (each count (λ o. extensionsAt z destinations marks (x + o)))) e k
       pub next : y ≡ x + count

@@ -2,7 +2,7 @@
 use mathlib.Core.Path.{_≡_}
 use mathlib.Core.Logic.{_⊎_}
 use mathlib.Core.List.{List, []}
-use Prim.Native.Nat.{ℕ, _+_, _<_}
+use Prim.Native.Nat.{ℕ, _+_, _≤_, _<_}
 use lib.IntN.{ℤ}
 use lib.ListN.{length}
 use Rattle.encoding.specs.Variables.{Task, Var}
@@ -18,7 +18,9 @@ pub data NextLine (f : Found) (from : ℕ) (d : List ℕ) (at : ℕ) (e : List �
   nothing : f ≡ ended (r .position) → e ≡ d → r .end ≡ at → NextLine f from d at e r
   long : (c : List ℤ) (y : ℕ) → f ≡ handed c y → length d < at + length (lineText c) → e ≡ d → r .end ≡ at → r .position ≡ from → NextLine f from d at e r
 
--- one line more or several, or none where no clause is left or the next line does not fit
+-- one line more or several, or none: positions without a clause were passed; or the position stays, and no clause is left or the next line does not fit
 pub record Further (T : Task) (num : Var → ℕ) (x : ℕ) (d : List ℕ) (at : ℕ) (e : List ℕ) (k y : ℕ) : Type 0 where
   pub lines : Lines T num x d at e k y
-  pub stop : k ≡ at → (clauses-from T num y ≡ []) ⊎ Longer T num (length d) at y
+  pub onward : x ≤ y
+  pub still : y ≡ x → k ≡ at
+  pub stop : k ≡ at → y ≡ x → (clauses-from T num y ≡ []) ⊎ Longer T num (length d) at y

@@ -66,18 +66,18 @@ pub fn fill(
             text,
             at,
         );
-        x = next.position;
-        if next.end == at {
+        if (next.end == at) & (next.position == x) {
             return Filled {
                 end: at,
                 position: x,
             };
         }
+        x = next.position;
         at = next.end;
     }
 }
 
-// Writes one line more, where there is one and it fits, or several lines of group 3.
+// Writes one line more, where there is one and it fits, or several lines of group 3, or goes on past positions without a clause.
 fn more_lines(
     z: Sizes,
     g: Extent,

@@ -14,22 +14,26 @@ use clause_indices::entry;
 use clause_line::LINE;
 use clause_list::indices::extension_indices;
 use clause_order::following;
+use clause_order::passing::past_letter;
+use clause_order::passing::past_state;
 use clause_sizes::Sizes;
+use clause_variables::kept;
 ghost use mathlib.Core.Path.{_≡_};
 ghost use mathlib.Core.Bool.{true, false};
-ghost use Prim.Native.Nat.{_+_, _^_, _≤_, _<_};
+ghost use Prim.Native.Nat.{_+_, _≤_, _<_};
 ghost use lib.ListN.{length};
 ghost use Rattle.decimal.specs.Wrote.{Wrote};
 ghost use Rattle.clause_sizes.specs.Sizes.{Fitting};
 ghost use Rattle.clause_list.specs.Tables.{Tables};
-ghost use Rattle.clause_indices.specs.Indices.{Within, extensions, extensionIndices};
-ghost use Rattle.clause_list.specs.Groups.{extensionOf};
+ghost use Rattle.clause_sizes.specs.Numbers.{InFile};
+ghost use Rattle.clause_indices.specs.Indices.{Within, pathAt, extensions, extensionIndices};
+ghost use Rattle.clause_list.specs.Groups.{lastPath, extensionOf};
 ghost use Rattle.clause_words.specs.Text.{lineText};
 ghost use Rattle.clause_text.specs.Kept.{Kept};
 ghost use Rattle.clause_text.specs.Blocks.{pathTexts, middleTexts, ExtensionsShort, Extensions};
 
-// Writes the lines from position `from` of group 3 on to the end of its block, as long as there are 80 bytes for each. What the six
-// buffers of kept texts hold does not matter.
+// Writes the lines from position `from` of group 3 on to the end of its block, as long as there are 80 bytes for each. Where the list has
+// no clause it goes on to the next letter or state. What the six buffers of kept texts hold does not matter.
 pub fn block_lines(
     z: Sizes,
     destinations: &[u8; Automaton::CELLS],
@@ -48,7 +52,7 @@ pub fn block_lines(
     requires { ⌜ ExtensionsShort z (now destinations) (now marks) ⌝ }
     requires { ⌜ (from < extensions z) × (at + 80 ≤ length (now text)) ⌝ }
     ensures { λ r. ⌜ Extensions z (now (destinations .entry)) (now (marks .entry)) from (now (text .entry)) at (now (text .exit)) (r .end) (r .position) ⌝ }
-    ensures { λ r. ⌜ at < r .end ⌝ }
+    ensures { λ r. ⌜ from < r .position ⌝ }
 {
     forget(head_sizes);
     forget(middle_sizes);
@@ -93,7 +97,7 @@ fn lines_from(
     requires { ⌜ Kept (middleTexts z (first .p .0) (first .t .0)) 96 256 (now middles) (now «middle_sizes») ⌝ }
     requires { ⌜ Kept (pathTexts z false (first .q .0) (first .u .0) (first .t .0)) 16 4096 (now lasts) (now «last_sizes») ⌝ }
     ensures { λ r. ⌜ Extensions z (now (destinations .entry)) (now (marks .entry)) from (now (text .entry)) at (now (text .exit)) (r .end) (r .position) ⌝ }
-    ensures { λ r. ⌜ at < r .end ⌝ }
+    ensures { λ r. ⌜ from < r .position ⌝ }
 {
     let mut x = first;
     let mut position = from;
@@ -106,7 +110,20 @@ fn lines_from(
         if text.len() - to < LINE {
             return Filled { end: to, position };
         }
+        let u = x.u;
+        if !kept(z, u, v) {
+            let next = past_state(z, x, position);
+            x = next.indices;
+            position = next.position;
+            continue;
+        }
         let w = ReferenceState(entry(destinations, v, x.l));
+        if !kept(z, u, w) {
+            let next = past_letter(z, x, position);
+            x = next.indices;
+            position = next.position;
+            continue;
+        }
         let f = entry(marks, v, x.l);
         to = extension_line(
             z,
@@ -142,7 +159,7 @@ fn extension_line(
     text: &mut [u8],
     at: usize,
 ) -> usize
-    requires { ⌜ Fitting z × Within z x × (w .0 < z .reference .states) × (f < 2 ^ z .reference .sets) ⌝ }
+    requires { ⌜ Fitting z × Within z x × InFile z (pathAt x) × InFile z (lastPath x (w .0) f) ⌝ }
     requires { ⌜ Kept (pathTexts z true (x .q .0) (x .u .0) (x .p .0)) 16 4096 (now heads) (now «head_sizes») ⌝ }
     requires { ⌜ Kept (middleTexts z (x .p .0) (x .t .0)) 96 256 (now middles) (now «middle_sizes») ⌝ }
     requires { ⌜ Kept (pathTexts z false (x .q .0) (x .u .0) (x .t .0)) 16 4096 (now lasts) (now «last_sizes») ⌝ }

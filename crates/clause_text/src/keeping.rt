@@ -19,7 +19,7 @@ ghost use Rattle.encoding.specs.Variables.{path};
 ghost use Rattle.decimal.specs.Wrote.{Wrote};
 ghost use Rattle.clause_sizes.specs.Sizes.{Fitting};
 ghost use Rattle.clause_sizes.specs.Numbers.{InFile};
-ghost use Rattle.clause_indices.specs.Indices.{Within};
+ghost use Rattle.clause_indices.specs.Indices.{Within, pathAt};
 ghost use Rattle.clause_words.specs.Text.{spacedText};
 ghost use Rattle.clause_text.specs.Kept.{NoneKept, Kept, Found};
 ghost use Rattle.clause_text.specs.Blocks.{signed, pathLiteral, middleOf, pathSlot, pathTexts, middleSlot, middleTexts};
@@ -137,7 +137,7 @@ pub fn write_middle(
     text: &mut [u8],
     at: usize,
 ) -> usize
-    requires { ⌜ Fitting z × Within z x ⌝ }
+    requires { ⌜ Fitting z × Within z x × InFile z (pathAt x) ⌝ }
     requires { ⌜ Kept (middleTexts z (x .p .0) (x .t .0)) 96 256 (now kept) (now sizes) ⌝ }
     requires { ⌜ at + length (spacedText (middleOf z (x .p .0) (x .t .0) (x .l) (x .k))) ≤ length (now text) ⌝ }
     ensures { λ r. ⌜ Kept (middleTexts z (x .p .0) (x .t .0)) 96 256 (now (kept .exit)) (now (sizes .exit)) ⌝ }
@@ -159,7 +159,7 @@ fn middle_in_slot(
     kept: &mut [u8; MIDDLE_BYTES],
     sizes: &mut [u8; MIDDLES],
 ) -> usize
-    requires { ⌜ Fitting z × Within z x × (slot ≡ middleSlot z (x .l) (x .k)) ⌝ }
+    requires { ⌜ Fitting z × Within z x × InFile z (pathAt x) × (slot ≡ middleSlot z (x .l) (x .k)) ⌝ }
     requires { ⌜ Kept (middleTexts z (x .p .0) (x .t .0)) 96 256 (now kept) (now sizes) ⌝ }
     ensures { λ r. ⌜ Found (middleTexts z (x .p .0) (x .t .0)) 96 256 (now (kept .exit)) (now (sizes .exit)) slot r ⌝ }
 {
@@ -173,7 +173,7 @@ fn middle_in_slot(
 }
 
 fn keep_middle(z: Sizes, x: Indices, kept: &mut [u8; MIDDLE_BYTES], at: usize) -> u8
-    requires { ⌜ Fitting z × Within z x ⌝ }
+    requires { ⌜ Fitting z × Within z x × InFile z (pathAt x) ⌝ }
     requires { ⌜ at + 96 ≤ 24576 ⌝ }
     ensures { λ r. ⌜ Wrote (now (kept .entry)) at (spacedText (middleOf z (x .p .0) (x .t .0) (x .l) (x .k))) (now (kept .exit)) (at + r) × (r ≤ 96) ⌝ }
 {

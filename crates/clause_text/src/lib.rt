@@ -39,9 +39,11 @@ pub fn lines(reference: Automaton, target: Target, position: u64, text: &mut [u8
             position,
         };
     }
-    let sized = measure(reference, target);
-    match sized {
-        Sized::Of(z) => many_lines(reference, z, position, text),
+    let measured = measure(reference, target);
+    let sizes = measured.sizes;
+    let answer = measured.answer;
+    match answer {
+        Sized::Of(_last) => many_lines(reference, sizes, position, text),
         Sized::Refused(refusal) => Handed {
             answer: Answer::Refused(refusal),
             position,

@@ -1,12 +1,16 @@
 // The numbers of the variables of a clause file, on all input.
+use automaton::Automaton;
 use automaton::states::CandidateState;
 use automaton::states::ReferenceState;
+use bits::sets::has;
 use clause_sizes::Sizes;
 use clause_sizes::fitting;
 ghost use Rattle.encoding.specs.Variables.{step, mark, path};
 ghost use Rattle.clause_sizes.specs.Numbers.{NumberIfAny};
+ghost use Rattle.clause_variables.specs.Kept.{KeptIfAny};
 
 mod numbers;
+mod rows;
 
 // The number of step(q, l, p), or 0 where a file of these sizes has no such variable, or none has these sizes.
 pub fn step_variable(z: Sizes, q: CandidateState, l: usize, p: CandidateState) -> usize
@@ -58,5 +62,18 @@ pub fn path_variable(
     if !((q.0 < n) & (u.0 < r) & (p.0 < n) & (v.0 < r) & (i < own) & (j < other)) {
         return 0;
     }
+    if !(kept(z, u, v) & rows::within(z, u)) {
+        return 0;
+    }
     numbers::path_number(z, q, u, p, v, i, j)
+}
+
+// Whether u has path variables to v.
+pub fn kept(z: Sizes, u: ReferenceState, v: ReferenceState) -> bool
+    ensures { λ r. ⌜ KeptIfAny z (u .0) (v .0) r ⌝ }
+{
+    if u.0 >= Automaton::STATES {
+        return false;
+    }
+    has(rows::row_set(z, u), v.0)
 }

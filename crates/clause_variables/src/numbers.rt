@@ -1,6 +1,8 @@
 // The numbers of the variables, for indices that were tested.
+use crate::rows::row_of;
 use automaton::states::CandidateState;
 use automaton::states::ReferenceState;
+use bits::sets::below;
 use clause_sizes::Sizes;
 ghost use Rattle.encoding.specs.Variables.{step, mark, path};
 ghost use Rattle.clause_sizes.specs.Sizes.{Fitting};
@@ -38,8 +40,10 @@ pub fn path_number(
     requires { ⌜ InFile z (path (q .0) (u .0) (p .0) (v .0) i j) ⌝ }
     ensures { λ r. ⌜ Numbered z (path (q .0) (u .0) (p .0) (v .0) i j) r ⌝ }
 {
-    let pair = (q.0 * z.reference.states + u.0) * z.candidate.states + p.0;
-    let place = ((pair * z.reference.states + v.0) * z.candidate.subsets + i) * z.reference.subsets
-        + j;
+    let n = z.candidate.states;
+    let row = row_of(z, u);
+    let paths = z.paths;
+    let pair = n * (q.0 * paths.pairs + row.before) + p.0 * row.size + below(row.set, v.0);
+    let place = (pair * z.candidate.subsets + i) * z.reference.subsets + j;
     z.marks + (1 + place)
 }

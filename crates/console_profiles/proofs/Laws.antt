@@ -1,11 +1,13 @@
 -- The words of a profile, case by case.
 use mathlib.Core.Path.{_≡_, sym, ap, ap₂, _∙_}
-use mathlib.Core.Bool.{true, false, cond, _&&_}
+use mathlib.Core.Bool.{Bool, true, false, cond, _&&_, _||_}
 use mathlib.Core.List.{List}
 use Prim.Native.Nat.{ℕ, _≤_, _<_}
 use borrow.Author.Tests.{lt-ltb, le-ltb}
 use Rattle.acceptance.specs.Masks.{everySet}
 use Rattle.automaton.specs.Bytes.{bytes}
+use Rattle.clause_sizes.specs.declared.Listing.{Listing}
+use Rattle.clause_sizes.specs.declared.Listing.the-variants.{First, Second}
 use Rattle.hoa_text.specs.Basics.{same}
 use Rattle.console_numerals.specs.declared.Number.{Number}
 use Rattle.console_numerals.specs.declared.Number.the-variants as number
@@ -14,7 +16,7 @@ use Rattle.console_profiles.specs.declared.Mask.{Mask}
 use Rattle.console_profiles.specs.declared.Mask.the-variants as mask
 use Rattle.console_profiles.specs.declared.Profile.{Profile}
 use Rattle.console_profiles.specs.declared.Profile.the-variants as profile
-use Rattle.console_profiles.specs.Profiles.{asMask, maskOf, named, profileOf}
+use Rattle.console_profiles.specs.Profiles.{listingOf, asMask, maskOf, named, profileOf}
 
 pub mask-past : {n : Number} {x : ℕ} → n ≡ number.Of x → 65536 ≤ x → mask.Past ≡ asMask n
 mask-past {n} {x} e h = sym (ap asMask e ∙ ap (λ b. cond b (mask.Of x) mask.Past) (le-ltb x 65536 h))
@@ -29,13 +31,27 @@ module _ (w : List ℕ) (m : ℕ) where
   pub number-named : {n : Number} {r : Mask} → same (bytes "all") w ≡ false → n ≡ numberOf w → r ≡ asMask n → r ≡ maskOf w m
   number-named f e g = g ∙ ap asMask e ∙ sym (ap (λ b. cond b (mask.Of (everySet m)) (asMask (numberOf w))) f)
 
+module _ (w : List ℕ) where
+  pub list-told : {a b t : Bool} → a ≡ same (bytes "1") w → b ≡ same (bytes "2") w → a || b ≡ t → same (bytes "1") w || same (bytes "2") w ≡ t
+  list-told d e f = sym (ap₂ _||_ d e) ∙ f
+
+  pub second-named : same (bytes "2") w ≡ true → Second ≡ listingOf w
+  second-named t = sym (ap (λ b. cond b Second First) t)
+
+  pub first-named : same (bytes "2") w ≡ false → First ≡ listingOf w
+  first-named f = sym (ap (λ b. cond b Second First) f)
+
 module _ (list acceptance marks : List ℕ) (n m : ℕ) where
-  pub other-list : same (bytes "1") list ≡ false → profile.None ≡ profileOf list acceptance marks n m
-  other-list f = sym (ap (λ b. cond (b && same (bytes "transitions") marks) (named n m (maskOf acceptance m)) profile.None) f)
+  -- by what the tests of the words for the list and for the marks say
+  abbrev judged : Bool → Bool → Profile
+  judged b c = cond (b && c) (named n m (listingOf list) (maskOf acceptance m)) profile.None
 
-  pub other-marks : same (bytes "1") list ≡ true → same (bytes "transitions") marks ≡ false → profile.None ≡ profileOf list acceptance marks n m
-  other-marks t f = sym (ap₂ (λ b c. cond (b && c) (named n m (maskOf acceptance m)) profile.None) t f)
+  pub other-list : same (bytes "1") list || same (bytes "2") list ≡ false → profile.None ≡ profileOf list acceptance marks n m
+  other-list f = sym (ap (λ b. judged b (same (bytes "transitions") marks)) f)
 
-  pub profile-named : {x : Mask} {r : Profile} → same (bytes "1") list ≡ true → same (bytes "transitions") marks ≡ true → x ≡ maskOf acceptance m → r ≡ named n m x
-      → r ≡ profileOf list acceptance marks n m
-  profile-named t u e g = g ∙ ap (named n m) e ∙ sym (ap₂ (λ b c. cond (b && c) (named n m (maskOf acceptance m)) profile.None) t u)
+  pub other-marks : same (bytes "1") list || same (bytes "2") list ≡ true → same (bytes "transitions") marks ≡ false → profile.None ≡ profileOf list acceptance marks n m
+  other-marks t f = sym (ap₂ judged t f)
+
+  pub profile-named : {x : Mask} {w : Listing} {r : Profile} → same (bytes "1") list || same (bytes "2") list ≡ true → same (bytes "transitions") marks ≡ true
+      → x ≡ maskOf acceptance m → w ≡ listingOf list → r ≡ named n m w x → r ≡ profileOf list acceptance marks n m
+  profile-named t u e d g = g ∙ ap₂ (named n m) d e ∙ sym (ap₂ judged t u)

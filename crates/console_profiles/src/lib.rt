@@ -1,11 +1,12 @@
 // The words that name a profile: what is named for a clause file beside the candidate's numbers of states and sets.
 use acceptance::every_set;
+use clause_sizes::Listing;
 use clause_sizes::Target;
 use console_numerals::Number;
 use console_numerals::parse;
 use hoa_words::same;
 ghost use mathlib.Core.Path.{_≡_};
-ghost use Rattle.console_profiles.specs.Profiles.{asMask, maskOf, named, profileOf};
+ghost use Rattle.console_profiles.specs.Profiles.{listingOf, asMask, maskOf, named, profileOf};
 
 // A mask as it is given to a program.
 pub enum Mask {
@@ -22,7 +23,7 @@ pub enum Profile {
     None,
 }
 
-// Of the clause lists there is the first, `1`, and of the places for marks there are transitions.
+// The list is `1` or `2`, and of the places for marks there are transitions.
 pub fn profile_of(
     list: &[u8],
     acceptance: &[u8],
@@ -32,27 +33,38 @@ pub fn profile_of(
 ) -> Profile
     ensures { λ r. ⌜ r ≡ profileOf (now (list .entry)) (now (acceptance .entry)) (now (marks .entry)) states sets ⌝ }
 {
-    if !same(b"1", list) {
+    if !(same(b"1", list) | same(b"2", list)) {
         return Profile::None;
     }
     if !same(b"transitions", marks) {
         return Profile::None;
     }
-    named(mask_of(acceptance, sets), states, sets)
+    named(mask_of(acceptance, sets), listing_of(list), states, sets)
 }
 
-fn named(mask: Mask, states: usize, sets: usize) -> Profile
-    ensures { λ r. ⌜ r ≡ named states sets mask ⌝ }
+fn named(mask: Mask, listing: Listing, states: usize, sets: usize) -> Profile
+    ensures { λ r. ⌜ r ≡ named states sets listing mask ⌝ }
 {
     match mask {
         Mask::Of(acceptance) => Profile::Of(Target {
             states,
             sets,
             acceptance,
+            listing,
         }),
         Mask::Past => Profile::Past,
         Mask::None => Profile::None,
     }
+}
+
+// `2` names the second clause list, every other word the first.
+pub fn listing_of(word: &[u8]) -> Listing
+    ensures { λ r. ⌜ r ≡ listingOf (now (word .entry)) ⌝ }
+{
+    if same(b"2", word) {
+        return Listing::Second;
+    }
+    Listing::First
 }
 
 // `all` is Inf of all sets.

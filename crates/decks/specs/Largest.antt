@@ -1,5 +1,5 @@
 -- The largest sizes: the bound of V for every file, and that it is met.
-use mathlib.Core.Path.{_≡_, refl}
+use mathlib.Core.Path.{_≡_, refl, subst}
 use mathlib.Core.List.{_∷_, _++_}
 use Prim.Native.Nat.{_≤_}
 use lib.ListN.{replicate}
@@ -9,10 +9,10 @@ use Rattle.automaton.specs.Value.{Valid}
 use Rattle.automaton.specs.Meant.{fits-valid}
 use Rattle.clause_sizes.specs.declared.Target.{Target}
 use Rattle.clause_sizes.specs.Targets.{every, Proper, last}
-use Rattle.clause_sizes.specs.Limits.{sizes-fit, last-le}
+use Rattle.clause_sizes.specs.Limits.{sizes-fit, last-le, file-variables}
 
 pub at-most : {a : Automaton} {τ : Target} → Valid a → Proper τ → last a τ ≤ 4_199_424
-at-most v d = last-le (sizes-fit v d)
+at-most {a} {τ} v d = subst (λ k. k ≤ 4_199_424) (file-variables τ v) (last-le (sizes-fit v d))
 
 pub met : (a : Automaton) → a .states ≡ 16 → a .propositions ≡ 4 → a .sets ≡ 4 → last a (every 8 4) ≡ 4_199_424
 met a r k s = rw (r, k, s)

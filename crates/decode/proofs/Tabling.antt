@@ -153,8 +153,8 @@ module _ {a : Automaton} {z : Sizes} (M : Measured a z) (named : List ℕ) where
 
 -- ---- the sizes of the file
 
-pub sizing-not : {a : Automaton} {τ : Target} {y : Sized} {f : Refusal} → Sizing a τ y → y ≡ NoFile f → Valid a → Proper τ → ⊥
-sizing-not {a} {τ} s e v p = go (sizing-refused s e)
+pub sizing-not : {a : Automaton} {τ : Target} (z : Sizes) {y : Sized} {f : Refusal} → Sizing a τ z y → y ≡ NoFile f → Valid a → Proper τ → ⊥
+sizing-not {a} {τ} z s e v p = go (sizing-refused z s e)
   where
     go : {f : Refusal} {c : Option Code} → Refuses a τ f c → ⊥
     go (outside h) = h v

@@ -95,8 +95,10 @@ fn by_assignment(
     ensures { λ r. ⌜ (Valid reference → Proper target → ByAssignment (now (prefix .entry)) (now (prefix .exit)) (now (cycle .entry)) (now (cycle .exit)) r reference target (said held)) ⌝ }
 {
     let sized = measure(reference, target);
-    match sized {
-        Sized::Of(z) => by_table(reference, z, held, prefix, cycle),
+    let answer = sized.answer;
+    let sizes = sized.sizes;
+    match answer {
+        Sized::Of(last) => by_table(reference, sizes, held, prefix, cycle),
         Sized::Refused(refusal) => refused(refusal),
     }
 }

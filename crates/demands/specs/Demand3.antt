@@ -3,7 +3,7 @@
 --
 -- Of its clause c, field 1 shuts out a clause step whose first call alone is true and "ended" before clause C, field 2 a C with no list behind it, and fields
 -- 3 to 5 a list of one impossible clause and the same list for every reference.
-use mathlib.Core.Path.{_≡_, sym, ap₂, subst}
+use mathlib.Core.Path.{_≡_, refl, sym, ap, ap₂, subst}
 use mathlib.Core.Logic.{_↔_}
 use mathlib.Core.List.{List}
 use mathlib.Core.Option.{none, some}
@@ -17,10 +17,13 @@ use Rattle.automaton.specs.Value.{Valid, letters}
 use Rattle.automaton.specs.View.{view}
 use Rattle.automaton.specs.ViewLaws.{view-formed}
 use Rattle.encoding.specs.Clauses.{Assignment, Satisfies, group₄}
-use Rattle.encoding.specs.NamedFile.{named-length, named-encodes}
+use Rattle.encoding.specs.Variables.{step, mark, path, sharing}
+use Rattle.encoding.specs.NamedFile.{step-number, mark-number, path-number, named-length, first-sharing, named-encodes}
 use Rattle.compare.specs.Compared.{prefixRoom, loopRoom}
+use Rattle.clause_sizes.specs.declared.Listing.{Listing}
+use Rattle.clause_sizes.specs.declared.Listing.the-variants.{First}
 use Rattle.clause_sizes.specs.declared.Target.{Target}
-use Rattle.clause_sizes.specs.Targets.{Proper, task, numbers, last, kept, file, named}
+use Rattle.clause_sizes.specs.Targets.{which, listed, Proper, task, numbers, last, kept, file, named}
 use Rattle.clause_sizes.specs.Sizes as sizes
 use Rattle.clause_header.specs.declared.Totals.{Totals}
 use Rattle.clause_header.specs.declared.Totals.the-variants.{Of, Refused as NoTotals}
@@ -69,13 +72,24 @@ pub record Demand3 (reference : Automaton) (τ : Target) : Type 0 where
   pub lines : (cs : List TextCall) → TextCalls reference τ fresh-position cs → LinesOut reference τ cs
   -- 2. "The header is `p cnf V C`": the last variable and the number of clauses.
   pub header : (r : Totals) → Headed reference τ r → r ≡ Of (last reference τ) (length (file reference τ))
-  -- "C counted beforehand: nL + (1 + nnrL) + n³rrL·2^m·2^s·2^m + the length of group 4"
+  -- "C counted beforehand: nL + (1 + nnrL) + n³rrL·2^m·2^s·2^m + the length of group 4"; in the second list "C is counted anew", with those u, v and l in place of all rrL "only if u, v
+  -- and w share a component"
   pub count : let n = τ .states in
       let m = τ .sets in
       length (file reference τ)
       ≡ n * letters reference + (1 + n * n * reference .states * letters reference)
-      + n * n * n * reference .states * reference .states * letters reference * 2 ^ m * 2 ^ reference .sets * 2 ^ m
+      + n * n * n * sharing (task reference τ) * 2 ^ m * 2 ^ reference .sets * 2 ^ m
       + length (group₄ (task reference τ) (numbers reference τ))
+  pub count-first : τ .listing ≡ First → sharing (task reference τ) ≡ reference .states * reference .states * letters reference
+  -- "Stored solver answers belong to the first list and stay readable with it": its path variables have the numbers of document 01. Steps and marks have them in both lists.
+  pub first-numbers : τ .listing ≡ First → (q u p v I J : ℕ) → let n = τ .states in
+      let m = τ .sets in
+      let r = reference .states in
+      let L = letters reference in
+      numbers reference τ (path q u p v I J) ≡ n * n * L + n * n * L * m + (1 + ((((q * r + u) * n + p) * r + v) * 2 ^ m + I) * 2 ^ reference .sets + J)
+  pub step-numbers : (q l p : ℕ) → numbers reference τ (step q l p) ≡ 1 + (q * letters reference + l) * τ .states + p
+  pub mark-numbers : (q l i p : ℕ) → let n = τ .states in
+      numbers reference τ (mark q l i p) ≡ n * n * letters reference + (1 + ((q * letters reference + l) * τ .sets + i) * n + p)
   -- 3. The file can be satisfied exactly if some automaton C is found: with n states, m sets, the named acceptance ("demand 3 speaks of the automata that
   -- carry it"), "start 0" and the reference's propositions and names, and in agreement with the reference on every lasso word.
   pub satisfiable : ((ν : Assignment) × Satisfies ν (file reference τ)) ↔ ((C : Automaton) × Found reference τ C)
@@ -121,6 +135,10 @@ module _ {reference : Automaton} {τ : Target} (v : Valid reference) (d : Proper
     lines = lines-out v d;
     header = header-is;
     count = named-length (view reference) (named τ);
+    count-first = λ e. first-sharing (view reference) (named τ) (ap which e);
+    first-numbers = λ e. path-number (view reference) (named τ) (ap which e);
+    step-numbers = step-number (view reference) (named τ);
+    mark-numbers = mark-number (view reference) (named τ);
     satisfiable = can-be-satisfied v d;
     within = λ ν ξ same s. (
       named-encodes (view reference) (named τ) (view-formed v) (d .dimensioned .n-some) .within ν ξ same s,
@@ -134,3 +152,49 @@ module _ {reference : Automaton} {τ : Target} (v : Valid reference) (d : Proper
 -- for every reference in "The automaton", "n states (1 to 8), m sets (0 to 4)", and every acceptance of the candidate without "a yes past m"
 pub demand-3 : {reference : Automaton} {τ : Target} → Valid reference → Proper τ → Demand3 reference τ
 demand-3 v d = every-field v d
+
+-- ---- either list
+
+-- "For each reference, size and acceptance one list can be satisfied exactly if the other can, and the facts about decoding are proved over either choice": w and w₂ name lists, one or both
+pub record EitherList (reference : Automaton) (τ : Target) (w w₂ : Listing) : Type 0 where
+  pub satisfiable : ((ν : Assignment) × Satisfies ν (file reference (listed τ w))) ↔ ((ν : Assignment) × Satisfies ν (file reference (listed τ w₂)))
+  -- what satisfies the one decodes to the same automata as what satisfies the other
+  pub decoded : (C : Automaton) → ((ν : Assignment) × Satisfies ν (file reference (listed τ w)) × (decodedValue reference (listed τ w) ν ≡ C))
+      ↔ ((ν : Assignment) × Satisfies ν (file reference (listed τ w₂)) × (decodedValue reference (listed τ w₂) ν ≡ C))
+
+module _ {reference : Automaton} {τ : Target} (v : Valid reference) (d : Proper τ) where
+  -- a target with another list has the same sizes and acceptance
+  listed-proper : (w : Listing) → Proper (listed τ w)
+  listed-proper w = record { dimensioned = record { n-some = d .dimensioned .n-some; n-le = d .dimensioned .n-le; m-le = d .dimensioned .m-le }; own-sets = d .own-sets }
+
+  -- the automata that are looked for are the same
+  same-found : (w w₂ : Listing) (C : Automaton) → Found reference (listed τ w) C → Found reference (listed τ w₂) C
+  same-found w w₂ C f =
+      let c = f .candidate in
+      record {
+        candidate = record {
+          valid = c .valid;
+          states = c .states;
+          sets = c .sets;
+          acceptance = c .acceptance;
+          start = c .start;
+          kind = c .kind;
+          propositions = c .propositions;
+          names = c .names;
+        };
+        agrees = f .agrees;
+      }
+
+  one-way : (w w₂ : Listing) (C : Automaton) → (ν : Assignment) × Satisfies ν (file reference (listed τ w)) × (decodedValue reference (listed τ w) ν ≡ C)
+      → (ν : Assignment) × Satisfies ν (file reference (listed τ w₂)) × (decodedValue reference (listed τ w₂) ν ≡ C)
+  one-way w w₂ C (ν, s, e) =
+      found-decoded v (listed-proper w₂) C (same-found w w₂ C (subst (Found reference (listed τ w)) e (satisfying-found v (listed-proper w) ν s)))
+
+  pub either-list : (w w₂ : Listing) → EitherList reference τ w w₂
+  either-list w w₂ = record {
+    satisfiable = (to w w₂, to w₂ w);
+    decoded = λ C. (one-way w w₂ C, one-way w₂ w C);
+  }
+    where
+      to : (w w₂ : Listing) → (ν : Assignment) × Satisfies ν (file reference (listed τ w)) → (ν : Assignment) × Satisfies ν (file reference (listed τ w₂))
+      to w w₂ (ν, s) = let t = one-way w w₂ (decodedValue reference (listed τ w) ν) (ν, s, refl) in (t .0, t .1)

@@ -15,9 +15,11 @@ pub mod Lowest
 pub mod Decoding
 pub mod Numbering
 pub mod Blocks
+pub mod KeptPaths
 pub mod History
 pub mod Sound
 pub mod Paths
 pub mod Complete
 pub mod Theorem
+pub mod SameNumbers
 pub mod NamedFile

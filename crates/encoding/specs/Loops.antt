@@ -9,6 +9,7 @@ use native.Mathlib.Omega.{arith}
 use lib.Arith.{digits-div, digits-mod}
 use lib.ListN.{length, length-append}
 use Rattle.meaning.specs.BitSet.{bit}
+use Rattle.meaning.specs.Counting.{total}
 use Rattle.encoding.specs.Clauses.{each, only}
 
 -- ---- members
@@ -59,11 +60,6 @@ module _ {A : Type 0} where
   only-most-one false a = zero-le
 
 -- ---- lengths
-
--- f 0 + .. + f (n - 1)
-unfoldable pub total : ℕ → (ℕ → ℕ) → ℕ
-total zero f = 0
-total (suc n) f = total n f + f n
 
 module _ {A : Type 0} where
   pub each-total : (n : ℕ) (f : ℕ → List A) (g : ℕ → ℕ) → ((i : ℕ) → i < n → length (f i) ≡ g i) → length (each n f) ≡ total n g

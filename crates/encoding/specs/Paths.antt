@@ -13,7 +13,8 @@ use Rattle.meaning.specs.Agreement.{Over}
 use Rattle.meaning.specs.Walk.{run, Walk}
 use Rattle.meaning.specs.WalkLaws.{run-append, walk-map}
 use Rattle.meaning.specs.ShortWalk.{Numbered, ok-run}
-use Rattle.meaning.specs.Reachability.{Step, reach, reach-exact}
+use Rattle.meaning.specs.Reach.{reach}
+use Rattle.meaning.specs.Reachability.{Step, reach-exact}
 use Rattle.meaning.specs.Product.{over-walk, walk-over}
 use Rattle.meaning.specs.LassoWord.{over-append}
 use Rattle.meaning.specs.MarkSets.{set-of-lt}

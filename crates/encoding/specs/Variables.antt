@@ -1,9 +1,10 @@
 -- DEFINITIONS, 1 of 3: the variables of a clause file and their numbers. Document 01, "Variables, from 1", whose words and letters stand in
 -- quotes. They are those of S. Baarir and A. Duret-Lutz, "SAT-based Minimization of Deterministic ω-Automata" (LPAR 2015), section 2.2.
 use mathlib.Core.Path.{_≡_}
-use mathlib.Core.Bool.{Bool, true}
-use Prim.Native.Nat.{ℕ, _+_, _*_, _^_, _<_}
+use mathlib.Core.Bool.{Bool, true, _&&_}
+use Prim.Native.Nat.{ℕ, _+_, _*_, _/_, _%_, _^_, _<_}
 use Rattle.meaning.specs.Automata.{Aut}
+use Rattle.meaning.specs.Counting.{total, how-many}
 
 -- ---- what a clause file is made for
 
@@ -14,6 +15,14 @@ pub record Task : Type 0 where
   pub m : ℕ
   pub accept : (ℕ → Bool) → Bool
   pub kept : ℕ → ℕ → Bool
+
+-- ---- counts
+
+-- how many u, v and l there are for which both paths of group 3's clauses are kept: those to v, and to w, "the reference's step from the named state by l"
+abbrev pub sharing : Task → ℕ
+sharing T =
+    let R = T .reference in
+    total (R .states) (λ u. total (R .states) (λ v. how-many (R .letters) (λ l. T .kept u v && T .kept u (R .step v l))))
 
 -- ---- "Variables, from 1"
 
@@ -64,6 +73,17 @@ module _ (T : Task) where
   all-paths = record {
     size = n * r * n * r * 2 ^ m * 2 ^ s;
     place = λ q u p v I J. ((((q * r + u) * n + p) * r + v) * 2 ^ m + I) * 2 ^ s + J;
+  }
+
+  -- whether the path at the place k of all paths is kept, by its u and its v
+  abbrev pub kept-at : ℕ → Bool
+  kept-at k = T .kept (k / 2 ^ s / 2 ^ m / r / n % r) (k / 2 ^ s / 2 ^ m % r)
+
+  -- "Absent path variables are skipped and the numbers close up" (document 02, E6): the place of a path is the number of those before it that are kept
+  abbrev pub kept-paths : PathBlock
+  kept-paths = record {
+    size = how-many (all-paths .size) kept-at;
+    place = λ q u p v I J. how-many (all-paths .place q u p v I J) kept-at;
   }
 
   -- "step(q,l,p): 1 + (qL + l)n + p"; a mark "after the nnL steps, 1 + .."; a path "after those nnLm marks, 1 + .."

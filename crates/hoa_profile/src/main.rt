@@ -136,8 +136,9 @@ fn is_named(profile: Profile) -> bool {
 
 // A mask that no number of sets has room for: 4, after what is said of the other sizes.
 fn refuse_past(reference: Automaton, states: usize, sets: usize) {
-    let sized = measure(reference, Target::every(states, sets));
-    match sized {
+    let measured = measure(reference, Target::every(states, sets));
+    let answer = measured.answer;
+    match answer {
         Sized::Refused(x) => {
             refuse(x, b"hoa_profile", Place::first());
         }

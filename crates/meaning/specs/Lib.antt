@@ -5,11 +5,15 @@ pub mod Tests
 pub mod TestLaws
 pub mod Counting
 pub mod CountingLaws
+pub mod Totals
 pub mod Pigeonhole
 pub mod Walk
 pub mod WalkLaws
 pub mod ShortWalk
+pub mod Reach
 pub mod Reachability
+pub mod Components
+pub mod ComponentLaws
 pub mod LassoWord
 pub mod Run
 pub mod Recurrence

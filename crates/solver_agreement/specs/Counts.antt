@@ -1,4 +1,5 @@
 -- The numbers of a file stay small.
+use mathlib.Core.Path.{subst}
 use Prim.Native.Nat.{_≤_}
 use Rattle.automaton.specs.declared.Automaton.{Automaton}
 use Rattle.automaton.specs.Value.{Valid}
@@ -11,4 +12,4 @@ module _ {a : Automaton} {τ : Target} (v : Valid a) (d : Proper τ) where
   kept-le = Limits.marks-le (Limits.sizes-fit v d)
 
   pub last-le : last a τ ≤ 4_199_424
-  last-le = Limits.last-le (Limits.sizes-fit v d)
+  last-le = subst (λ k. k ≤ 4_199_424) (Limits.file-variables τ v) (Limits.last-le (Limits.sizes-fit v d))

@@ -1,5 +1,6 @@
 -- What a call is answered, by what was judged before it.
 use mathlib.Core.Path.{_≡_, sym, ap, _∙_, subst}
+use Prim.Native.Nat.{ℕ}
 use Rattle.automaton.specs.declared.Automaton.{Automaton}
 use Rattle.refusals.specs.declared.Refusal.{Refusal}
 use Rattle.clause_sizes.specs.declared.Target.{Target}
@@ -7,7 +8,7 @@ use Rattle.clause_sizes.specs.declared.Sizes.{Sizes}
 use Rattle.clause_sizes.specs.declared.Sized.the-variants as sized
 use Rattle.clause_sizes.specs.Numbers.{lastVariable}
 use Rattle.clause_sizes.specs.Sizes.{Sizing, Fitting, outside, dimensions, past-sets}
-use Rattle.clause_sizes.specs.Limits.{sizes-fit}
+use Rattle.clause_sizes.specs.Limits.{sizes-fit, file-variables}
 use Rattle.solver_text.specs.declared.Reader.{Reader}
 use Rattle.solver_text.specs.declared.call.Variables.{Variables}
 use Rattle.solver_text.specs.declared.call.File.the-variants.{Of, Refused}
@@ -18,14 +19,11 @@ use Rattle.solver_text.specs.Objection.{state, call, Judged}
 
 module _ (a : Automaton) (τ : Target) (r : Reader) where
   -- a state in its ranges, and what was measured
-  pub sizing-fits : {z : Sizes} → Sizing a τ (sized.Of z) → Fitting z
-  sizing-fits (v, d, e) = subst Fitting (sym e) (sizes-fit v d)
+  pub sizing-fits : (z : Sizes) {i : ℕ} → Sizing a τ z (sized.Of i) → Fitting z
+  sizing-fits z (v, d, e, g) = subst Fitting (sym e) (sizes-fit v d)
 
-  pub judged : InRange r → {z : Sizes} → Sizing a τ (sized.Of z) → {file : Variables} → (file .last ≡ lastVariable z) × (file .kept ≡ z .marks) → Judged a τ r (Of file)
-  judged h (v, d, e) (l, k) = (h, v, d, l ∙ ap lastVariable e, k ∙ ap (λ (z : Sizes). z .marks) e)
-
-  pub judged-refused : InRange r → {f : Refusal} → Sizing a τ (sized.Refused f) → Judged a τ r (Refused f)
-  judged-refused h s = call h s
+  pub judged : InRange r → (z : Sizes) {i : ℕ} → Sizing a τ z (sized.Of i) → {file : Variables} → (file .last ≡ lastVariable z) × (file .kept ≡ z .marks) → Judged a τ r (Of file)
+  judged h z (v, d, e, g) (l, k) = (h, v, d, l ∙ ap lastVariable e ∙ file-variables τ v, k ∙ ap (λ (z : Sizes). z .marks) e)
 
   pub called-read : {file : Variables} {read e : Reply} → Judged a τ r (Of file) → e ≡ read → Called a τ r read e
   called-read (h, v, d, l, k) q = called-text v h d q

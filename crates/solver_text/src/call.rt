@@ -38,8 +38,11 @@ pub fn judge(reader: Reader, reference: Automaton, target: Target) -> File
     if !in_range(reader) {
         return File::Refused(Refusal::Outside);
     }
-    match measure(reference, target) {
-        Sized::Of(z) => File::Of(variables_of(z)),
+    let sized = measure(reference, target);
+    let answer = sized.answer;
+    let sizes = sized.sizes;
+    match answer {
+        Sized::Of(last) => File::Of(variables_of(sizes)),
         Sized::Refused(x) => File::Refused(x),
     }
 }
@@ -80,6 +83,8 @@ fn entries_fit(named: &[u8; Reader::SLOTS]) -> bool
     true
 }
 
+// V once more, though the answer has it: with the answer's, the compiler put `judge` into the function with the loop, which was
+// then measured to take 1.6 times as long.
 fn variables_of(z: Sizes) -> Variables
     requires { ⌜ Fitting z ⌝ }
     ensures { λ r. ⌜ (r .last ≡ lastVariable z) × (r .kept ≡ z .marks) ⌝ }

@@ -2,7 +2,7 @@
 use mathlib.Core.Path.{_≡_, ap, _∙_}
 use Prim.Native.Nat.{_*_, _-_, _^_, _≤_}
 use Rattle.encoding.specs.Clauses.{_∪_}
-use Rattle.encoding.specs.Loops.{total}
+use Rattle.meaning.specs.Counting.{total}
 use Rattle.clause_header.specs.ClosureCount.{pairsFor}
 use Rattle.clause_sizes.specs.Limits.{reference-subsets-le}
 use Rattle.clause_header.proofs.Counting.{total-none, total-more}

@@ -3,7 +3,7 @@ use mathlib.Core.Path.{_≡_}
 use Prim.Native.Nat.{_-_, _≤_}
 use native.Mathlib.Omega.{arith}
 use borrow.Author.Needs.{needs}
-use Rattle.encoding.specs.Loops.{total}
+use Rattle.meaning.specs.Counting.{total}
 use Rattle.clause_header.proofs.Counting.{pairs-le, own-some, yesAt, in-a-row, total-none, total-more}
 use Rattle.clause_header.proofs.yes_pairs.Statement.{statement}
 use Rattle.clause_header.proofs.yes_pairs.Tie as tie

@@ -22,11 +22,11 @@ power-of-two-requires-2 c κs = search needs
 power-of-two-requires-3 : tie.Need-power-of-two-requires-3
 power-of-two-requires-3 c κs = search needs
 
-mul-t14 : tie.Need-mul-t14
-mul-t14 c = omega (arith, square-le (c .before .before .before .pre .0 .n-le) (c .before .before .power-of-two .ensures .1 .1), mul-le-mul (square-le (c .before .before .before .pre .0 .n-le) (c .before .before .power-of-two .ensures .1 .1)) (c .before .before .before .pre .0 .m-le))
+mul-t16 : tie.Need-mul-t16
+mul-t16 c = omega (arith, square-le (c .before .before .before .pre .0 .n-le) (c .before .before .power-of-two .ensures .1 .1), mul-le-mul (square-le (c .before .before .before .pre .0 .n-le) (c .before .before .power-of-two .ensures .1 .1)) (c .before .before .before .pre .0 .m-le))
 
-add-t15 : tie.Need-add-t15
-add-t15 c = omega (arith, square-le (c .before .before .before .pre .0 .n-le) (c .before .before .power-of-two .ensures .1 .1), mul-le-mul (square-le (c .before .before .before .pre .0 .n-le) (c .before .before .power-of-two .ensures .1 .1)) (c .before .before .before .pre .0 .m-le))
+add-t17 : tie.Need-add-t17
+add-t17 c = omega (arith, square-le (c .before .before .before .pre .0 .n-le) (c .before .before .power-of-two .ensures .1 .1), mul-le-mul (square-le (c .before .before .before .pre .0 .n-le) (c .before .before .power-of-two .ensures .1 .1)) (c .before .before .before .pre .0 .m-le))
 
 returns : tie.Need-returns
 returns c = let h = c .before .before .before .pre in
@@ -35,4 +35,4 @@ returns c = let h = c .before .before .before .pre in
 pub measured-spec : {M : Type 1} → statement M
 measured-spec =
     tie.close
-    (tie.spec power-of-two-requires mul-steps mul-steps-2 power-of-two-requires-2 power-of-two-requires-3 mul-t14 add-t15 returns)
+    (tie.spec power-of-two-requires mul-steps mul-steps-2 power-of-two-requires-2 power-of-two-requires-3 mul-t16 add-t17 returns)

@@ -19,30 +19,32 @@ returns-2 c = (outside (omega arith) (λ (v, i). omega arith), refl, refl)
 measure-requires : tie.Need-measure-requires
 measure-requires c κs = search needs
 
-enum-known-sized : tie.Need-enum-known-sized
-enum-known-sized c = search needs
+enum-known-answer : tie.Need-enum-known-answer
+enum-known-answer c = search needs
 
 find-requires : tie.Need-find-requires
-find-requires c κs = let (v, i, e) = sizing-of (c .before .before .before .before .measure .ensures) (c .before .before .sized .given .1) in
+find-requires c κs =
+    let (v, i, e, l) = sizing-of (c .before .before .before .before .before .measure .result .sizes) (c .before .before .before .before .before .measure .ensures) (c .before .before .answer .given .1) in
     (measured-of v i e, omega arith)
 
-enum-known-sized-2 : tie.Need-enum-known-sized-2
-enum-known-sized-2 c = search needs
+enum-known-answer-2 : tie.Need-enum-known-answer-2
+enum-known-answer-2 c = search needs
 
 same-length : tie.Need-same-length
 same-length c = c .before .find .kept .1 .1 .1 .0
 
 returns-3 : tie.Need-returns-3
-returns-3 c = let (v, i, q) = sizing-of (c .before .before .before .before .before .before .measure .ensures) (c .before .before .before .before .sized .given .1) in
-    let a = c .before .before .before .before .before .before .before .before .before .args in
+returns-3 c =
+    let (v, i, q, l) = sizing-of (c .before .before .before .before .before .before .before .measure .result .sizes) (c .before .before .before .before .before .before .before .measure .ensures) (c .before .before .before .before .answer .given .1) in
+    let a = c .before .before .before .before .before .before .before .before .before .before .args in
     stepped (a .reference) (a .target) (a .position) (a .clause .now) _ (c .before .find .result)
     (record { room = omega arith; valid = v; in-range = omega arith; proper = i })
     (subst (λ z. StepFound (a .reference) (targetOf z) (a .position) (a .clause .now) (c .before .find .last .1 .1 .1 .0) (c .before .find .result .answer) (c .before .find .result .position)) q (c .before .find .ensures))
 
 returns-4 : tie.Need-returns-4
-returns-4 c = (refused-sizes (omega arith) (omega arith) (sizing-refused (c .before .before .before .measure .ensures) (c .before .sized2 .given .1)), refl, refl)
+returns-4 c = (refused-sizes (omega arith) (omega arith) (sizing-refused (c .before .before .before .before .measure .result .sizes) (c .before .before .before .before .measure .ensures) (c .before .answer2 .given .1)), refl, refl)
 
 pub step-spec : {M : Type 1} → statement M
 step-spec =
     tie.close
-    (tie.spec returns returns-2 measure-requires enum-known-sized find-requires enum-known-sized-2 same-length returns-3 returns-4)
+    (tie.spec returns returns-2 measure-requires enum-known-answer find-requires enum-known-answer-2 same-length returns-3 returns-4)

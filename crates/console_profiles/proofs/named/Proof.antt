@@ -15,7 +15,7 @@ enum-told-2 : tie.Need-enum-told-2
 enum-told-2 c = search needs
 
 returns : tie.Need-returns
-returns c = sym (ap (named (c .before .before .before .args .states) (c .before .before .before .args .sets)) (c .before .mask .given .1))
+returns c = let a = c .before .before .before .args in sym (ap (named (a .states) (a .sets) (a .listing)) (c .before .mask .given .1))
 
 returns-2 : tie.Need-returns-2
 returns-2 c = search needs

@@ -9,14 +9,17 @@ use Rattle.decode.proofs.by_assignment.Tie as tie
 measure-requires : tie.Need-measure-requires
 measure-requires c κs = search needs
 
-enum-known-sized : tie.Need-enum-known-sized
-enum-known-sized c = search needs
+enum-known-answer : tie.Need-enum-known-answer
+enum-known-answer c = search needs
 
 by-table-requires : tie.Need-by-table-requires
-by-table-requires c κs = let (v, d, e) = sizing-of (c .before .before .before .before .before .measure .ensures) (c .before .before .before .sized .given .1) in (measured-of v d e, c .before .before .before .before .before .before .before .before .pre)
+by-table-requires c κs =
+    let e = c .before .before .before .before .before .before in
+    let (v, t, s, l) = sizing-of _ (e .measure .ensures) (c .before .before .before .answer .given .1) in
+    (measured-of v t s, e .before .before .before .pre)
 
-enum-known-sized-2 : tie.Need-enum-known-sized-2
-enum-known-sized-2 c = search needs
+enum-known-answer-2 : tie.Need-enum-known-answer-2
+enum-known-answer-2 c = search needs
 
 refused-requires : tie.Need-refused-requires
 refused-requires c κs = search needs
@@ -28,19 +31,22 @@ same-length-2 : tie.Need-same-length-2
 same-length-2 c = search needs
 
 returns : tie.Need-returns
-returns c = λ v d. assigned-answer (said (c .before .before .before .before .before .before .before .before .before .before .before .before .before .args .held)) (sizing-of (c .before .before .before .before .before .before .before .before .before .before .measure .ensures) (c .before .before .before .before .before .before .before .before .sized .given .1) .2) (c .before .before .before .before .by-table .ensures)
+returns c =
+    let e = c .before .before .before .before .before .before .before .before .before .before .before in
+    let s = sizing-of _ (e .measure .ensures) (c .before .before .before .before .before .before .before .before .answer .given .1) in
+    λ v d. assigned-answer (said (e .before .before .before .args .held)) (s .2) (c .before .before .before .before .by-table .ensures)
 
 returns-2 : tie.Need-returns-2
-returns-2 c = λ v d. absurd (sizing-not (c .before .before .before .before .measure .ensures) (c .before .before .sized2 .given .1) v d)
+returns-2 c = λ v d. absurd (sizing-not _ (c .before .before .before .before .before .measure .ensures) (c .before .before .answer2 .given .1) v d)
 
 pub by-assignment-spec : {M : Type 1} → statement M
 by-assignment-spec =
     tie.close
     (tie.spec
     measure-requires
-    enum-known-sized
+    enum-known-answer
     by-table-requires
-    enum-known-sized-2
+    enum-known-answer-2
     refused-requires
     same-length
     same-length-2

@@ -1,6 +1,5 @@
 -- `initial` meets its contract.
-use mathlib.Core.Path.{refl, _∙_}
-use lib.Pow.{pow-pos}
+use mathlib.Core.Path.{_∙_}
 use lib.ListN.{length-set}
 use Rattle.clause_indices.specs.Literals.{stored, wrote-first, positive-of}
 use borrow.Author.Needs.{needs}
@@ -23,7 +22,7 @@ same-length c = simp length-set
 returns : tie.Need-returns
 returns c = let f = c .before .before .pre .0 in
     let h = c .before .before .pre .1 .0 in
-    wrote-first (omega arith) (stored (c .positive .ok) ∙ positive-of (c .before .path-variable .ensures .there f (f .n-some, h, f .n-some, h, pow-pos _, pow-pos _, refl)) (c .positive .ensures))
+    wrote-first (omega arith) (stored (c .positive .ok) ∙ positive-of (c .before .path-variable .ensures .there f h) (c .positive .ensures))
 
 pub initial-spec : {M : Type 1} → statement M
 initial-spec =

@@ -1,6 +1,5 @@
 -- `successor` meets its contract.
-use mathlib.Core.Path.{refl, _∙_}
-use lib.Pow.{pow-pos}
+use mathlib.Core.Path.{_∙_}
 use lib.ListN.{length-set}
 use Rattle.clause_indices.specs.Literals.{stored, wrote-three, positive-of, negative-of}
 use borrow.Author.Needs.{needs}
@@ -41,10 +40,11 @@ same-length c = simp length-set
 returns : tie.Need-returns
 returns c = let f = c .before .before .before .before .before .before .pre .0 in
     let h = c .before .before .before .before .before .before .pre .1 .0 in
+    let n = c .before .before .before .before .before .before .pre .1 .1 in
     wrote-three (omega arith)
-    (stored (c .before .before .before .before .negative .ok) ∙ negative-of (c .before .before .before .before .before .path-variable .ensures .there f (h .q-lt, h .u-lt, h .q-lt, h .u-lt, pow-pos _, pow-pos _, refl)) (c .before .before .before .before .negative .ensures))
+    (stored (c .before .before .before .before .negative .ok) ∙ negative-of (c .before .before .before .before .before .path-variable .ensures .there f (n .0)) (c .before .before .before .before .negative .ensures))
     (stored (c .before .before .negative2 .ok) ∙ negative-of (c .before .before .before .step-variable .ensures .there f (h .q-lt, h .l-lt, h .p-lt)) (c .before .before .negative2 .ensures))
-    (stored (c .positive .ok) ∙ positive-of (c .before .path-variable2 .ensures .there f (h .p-lt, h .w-lt, h .p-lt, h .w-lt, pow-pos _, pow-pos _, refl)) (c .positive .ensures))
+    (stored (c .positive .ok) ∙ positive-of (c .before .path-variable2 .ensures .there f (n .1)) (c .positive .ensures))
 
 pub successor-spec : {M : Type 1} → statement M
 successor-spec =

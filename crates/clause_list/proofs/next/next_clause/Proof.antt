@@ -18,10 +18,10 @@ loop-holds : tie.Need-loop-holds Inv-loop μ-loop
 loop-holds c = waiting-start _ _
 
 clause-at-requires : tie.Need-clause-at-requires Inv-loop μ-loop
-clause-at-requires c κs = (c .before .before .before .before .pre .0, (c .before .before .before .before .pre .1 .0, c .before .if1 .taken, omega (arith, c .before .before .before .before .pre .1 .1, ap length (c .before .before .before .loop .inv .untouched))))
+clause-at-requires c κs = let s = c .before .before .before .before in (s .pre .0, (s .pre .1 .0, c .before .if1 .taken, omega (arith, s .pre .1 .1, ap length (c .before .before .before .loop .inv .untouched))))
 
-add-x : tie.Need-add-x Inv-loop μ-loop
-add-x c = omega (arith, c .before .before .before .before .before .before .pre .1 .0 .all-le)
+add-t13 : tie.Need-add-t13 Inv-loop μ-loop
+add-t13 c = omega (arith, c .before .before .before .before .before .before .before .pre .1 .0 .all-le)
 
 same-length : tie.Need-same-length Inv-loop μ-loop
 same-length c = stands-length (c .before .before .clause-at .ensures) ∙ ap length (c .before .before .before .before .before .before .loop .inv .untouched)
@@ -29,11 +29,14 @@ same-length c = stands-length (c .before .before .clause-at .ensures) ∙ ap len
 returns : tie.Need-returns Inv-loop μ-loop
 returns c = waiting-here (c .before .before .before .before .before .before .before .pre .1 .0) (c .before .before .before .before .before .before .loop .inv) (c .before .before .before .before .if1 .taken) (c .before .before .clause-at .ensures) (c .if2 .taken)
 
+after-requires : tie.Need-after-requires Inv-loop μ-loop
+after-requires c κs = let t = c .before .before .before .before .before .before .before .pre .0 .0 in (t .fits, t .step-lt, c .before .before .before .before .before .before .before .pre .1 .0, c .before .before .before .before .if1 .taken)
+
 loop-less : tie.Need-loop-less Inv-loop μ-loop
-loop-less c = omega arith
+loop-less c = omega (arith, c .after .ensures .0, c .before .before .before .before .before .if1 .taken)
 
 loop-again : tie.Need-loop-again Inv-loop μ-loop
-loop-again c = waiting-more (c .before .before .before .before .before .before .before .pre .1 .0) (c .before .before .before .before .before .before .loop .inv) (c .before .before .before .before .if1 .taken) (c .before .before .clause-at .ensures) (omega arith)
+loop-again c = waiting-more (c .before .before .before .before .before .before .before .before .pre .1 .0) (c .before .before .before .before .before .before .before .loop .inv) (c .before .before .before .before .before .if1 .taken) (c .before .before .before .clause-at .ensures) (omega arith) (c .before .before .before .before .before .before .before .before .pre .0 .0) (c .after .ensures)
 
 same-length-2 : tie.Need-same-length-2 Inv-loop μ-loop
 same-length-2 c = ap length (c .before .before .loop .inv .untouched)
@@ -44,4 +47,4 @@ returns-2 c = waiting-end (c .before .before .before .pre .1 .0) (c .before .bef
 pub next-clause-spec : {M : Type 1} → statement M
 next-clause-spec =
     tie.close
-    (tie.spec Inv-loop μ-loop loop-holds clause-at-requires add-x same-length returns loop-less loop-again same-length-2 returns-2)
+    (tie.spec Inv-loop μ-loop loop-holds clause-at-requires add-t13 same-length returns after-requires loop-less loop-again same-length-2 returns-2)

@@ -2,6 +2,7 @@
 use mathlib.Core.Path.{refl}
 use Rattle.decimal.specs.Writing.{wrote-length}
 use Rattle.clause_list.specs.Position.{stands-same}
+use Rattle.clause_list.specs.Rows.{node-paths}
 use Rattle.clause_list.specs.Standing.{at-first, at-initial, at-successor, at-extension, at-closure}
 use Rattle.clause_list.proofs.Standing.{stands, stands-length, totality-some, first-place}
 use native.Mathlib.Omega.{arith}
@@ -24,7 +25,7 @@ returns : tie.Need-returns
 returns c = stands (at-first _ _ _ _ (c .before .before .before .before .before .before .before .pre .0 .0) (c .before .before .before .before .before .before .before .pre .1 .0) (c .before .before .before .before .before .if1 .taken)) (totality-some _ _ _ (c .before .before .before .before .before .before .before .pre .0 .0 .fits)) (c .before .totality .ensures)
 
 initial-requires : tie.Need-initial-requires
-initial-requires c κs = (c .before .before .before .before .before .before .before .pre .0 .0 .fits, (c .before .before .before .before .before .before .before .pre .0 .1, c .before .before .before .before .before .before .before .pre .1 .2))
+initial-requires c κs = let s = c .before .before .before .before .before .before .before .pre in (s .0 .0 .fits, (node-paths (s .0 .0) 0 _ (s .0 .0 .fits .n-some) (s .0 .1), s .1 .2))
 
 same-length-2 : tie.Need-same-length-2
 same-length-2 c = wrote-length (c .before .initial .ensures)
@@ -33,7 +34,7 @@ returns-2 : tie.Need-returns-2
 returns-2 c = stands (at-initial _ _ _ _ (c .before .before .before .before .before .before .before .before .before .pre .0 .0) (c .before .before .before .before .before .before .before .before .before .pre .1 .0) (omega arith) refl (c .before .before .before .before .if2 .taken) (c .before .before .before .if3 .taken)) (omega arith) (c .before .initial .ensures)
 
 successor-at-requires : tie.Need-successor-at-requires
-successor-at-requires c κs = ((c .before .before .before .before .before .before .before .pre .0 .0 .fits, c .before .before .before .before .before .before .before .pre .0 .0 .step-lt), (omega (arith, c .before .before .before .before .before .before .before .pre .1 .0 .second-is), c .before .before .before .before .before .before .before .pre .1 .2))
+successor-at-requires c κs = ((c .before .before .before .before .before .before .before .pre .0 .0 .fits, c .before .before .before .before .before .before .before .pre .0 .0 .step-lt, node-paths (c .before .before .before .before .before .before .before .pre .0 .0)), (omega (arith, c .before .before .before .before .before .before .before .pre .1 .0 .second-is), c .before .before .before .before .before .before .before .pre .1 .2))
 
 same-length-3 : tie.Need-same-length-3
 same-length-3 c = wrote-length (c .before .successor-at .ensures)
@@ -45,10 +46,10 @@ extension-at-requires : tie.Need-extension-at-requires
 extension-at-requires c κs = (c .before .before .before .before .before .before .before .before .before .pre .0 .0, (omega (arith, c .before .before .before .before .before .before .before .before .before .pre .1 .0 .third-is), c .before .before .before .before .before .before .before .before .before .pre .1 .2))
 
 same-length-4 : tie.Need-same-length-4
-same-length-4 c = wrote-length (c .before .extension-at .ensures)
+same-length-4 c = stands-length (c .before .extension-at .ensures)
 
 returns-4 : tie.Need-returns-4
-returns-4 c = stands (at-extension _ _ _ _ (c .before .before .before .before .before .before .before .before .before .before .before .pre .0 .0) (c .before .before .before .before .before .before .before .before .before .before .before .pre .1 .0) (omega arith) refl (omega arith) refl (c .before .before .before .if4 .taken)) (omega arith) (c .before .extension-at .ensures)
+returns-4 c = stands-same (at-extension _ _ _ _ (c .before .before .before .before .before .before .before .before .before .before .before .pre .0 .0) (c .before .before .before .before .before .before .before .before .before .before .before .pre .1 .0) (omega arith) refl (omega arith) refl (c .before .before .before .if4 .taken)) (c .before .extension-at .ensures)
 
 closure-at-requires : tie.Need-closure-at-requires
 closure-at-requires c κs = (c .before .before .before .before .before .before .before .before .before .before .pre .0 .0, (omega (arith, c .before .before .before .before .before .before .before .before .before .before .pre .1 .0 .all-is, c .before .before .before .before .before .before .before .before .before .before .pre .1 .1), c .before .before .before .before .before .before .before .before .before .before .pre .1 .2))

@@ -19,7 +19,11 @@ entry-requires : tie.Need-entry-requires
 entry-requires c κs = search needs
 
 successor-requires : tie.Need-successor-requires
-successor-requires c κs = (c .before .before .before .before .before .before .before .before .pre .0 .0, (successive (c .before .before .before .before .before .before .before .before .pre .0 .0) (c .before .before .before .before .before .before .before .before .args .destinations .now) (c .before .before .before .before .before .before .before .before .pre .0 .1) (c .before .before .before .before .before .before .before .before .pre .1 .0) (c .before .before .before .before .before .before .before .transition-at .ensures) (entry-is (transition-lt (c .before .before .before .before .before .before .before .before .pre .0 .0) (c .before .before .before .before .before .before .before .transition-at .ensures)) (c .before .entry .ensures)), c .before .before .before .before .before .before .before .before .pre .1 .1))
+successor-requires c κs =
+    let s = c .before .before .before .before .before .before .before .before in
+    let t = c .before .before .before .before .before .before .before .transition-at .ensures in
+    let h = successive (s .pre .0 .0) (s .args .destinations .now) (s .pre .0 .1) (s .pre .1 .0) t (entry-is (transition-lt (s .pre .0 .0) t) (c .before .entry .ensures)) in
+    (s .pre .0 .0, (h, (s .pre .0 .2 _ _ (h .q-lt) (h .u-lt), s .pre .0 .2 _ _ (h .p-lt) (h .w-lt), s .pre .1 .1)))
 
 same-length : tie.Need-same-length
 same-length c = wrote-length (c .before .successor .ensures)

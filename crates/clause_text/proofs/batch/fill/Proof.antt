@@ -1,13 +1,12 @@
 -- `fill` meets its contract. The invariant: so many lines are written, and the next clause is looked for at x.
 use mathlib.Core.Path.{_∙_}
 use Prim.Native.Nat.{_-_}
-use lib.ListN.{length}
+use native.Mathlib.Omega.{arith}
 use Rattle.decimal.specs.Writing.{wrote-length}
 use Rattle.clause_sizes.specs.Numbers.{numberOf}
 use Rattle.clause_list.specs.Tables.{taskOf}
 use Rattle.clause_text.specs.Filling.{Lines}
-use Rattle.clause_text.proofs.Batches.{lines-none, lines-then, lines-room, lines-filled}
-use native.Mathlib.Omega.{arith}
+use Rattle.clause_text.proofs.Batches.{lines-none, lines-then, lines-room, lines-filled, both-same, further-less}
 use Rattle.clause_text.proofs.batch.fill.Statement.{statement}
 use Rattle.clause_text.proofs.batch.fill.Tie as tie
 
@@ -15,7 +14,7 @@ abbrev Inv-loop : tie.InvT-loop
 Inv-loop z g start destinations marks from text₀ x₀ at₀ heads₀ head-sizes₀ middles₀ middle-sizes₀ lasts₀ last-sizes₀ text x at heads head-sizes middles middle-sizes lasts last-sizes = Lines (taskOf z (start .0) destinations marks) (numberOf z) from text₀ 0 text at x
 
 abbrev μ-loop : tie.MeasureT-loop
-μ-loop z g start destinations marks from text₀ x₀ at₀ heads₀ head-sizes₀ middles₀ middle-sizes₀ lasts₀ last-sizes₀ text x at heads head-sizes middles middle-sizes lasts last-sizes = length text₀ - at
+μ-loop z g start destinations marks from text₀ x₀ at₀ heads₀ head-sizes₀ middles₀ middle-sizes₀ lasts₀ last-sizes₀ text x at heads head-sizes middles middle-sizes lasts last-sizes = g .all - x
 
 loop-holds : tie.Need-loop-holds Inv-loop μ-loop
 loop-holds c = lines-none _ _ _ _ _ (omega arith)
@@ -24,18 +23,21 @@ more-lines-requires : tie.Need-more-lines-requires Inv-loop μ-loop
 more-lines-requires c κs = (c .before .before .before .before .before .before .before .before .before .pre .0, (c .before .before .before .before .before .before .before .before .before .pre .1, lines-room (c .before .before .before .before .before .before .before .loop .inv)))
 
 same-length : tie.Need-same-length Inv-loop μ-loop
-same-length c = wrote-length (c .before .before .before .before .more-lines .ensures .lines .text) ∙ wrote-length (c .before .before .before .before .before .before .before .before .before .before .before .before .loop .inv .text)
+same-length c = wrote-length (c .before .before .before .before .before .more-lines .ensures .lines .text) ∙ wrote-length (c .before .before .before .before .before .before .before .before .before .before .before .before .before .loop .inv .text)
 
 returns : tie.Need-returns Inv-loop μ-loop
 returns c =
-    let (lines, stop) = lines-filled (c .before .before .before .before .before .before .before .before .before .before .before .before .loop .inv) (c .before .before .before .before .more-lines .ensures) (c .if1 .taken) in
+    let (end, position) = both-same (c .if1 .taken) in
+    let (lines, stop) = lines-filled (c .before .before .before .before .before .before .before .before .before .before .before .before .before .loop .inv) (c .before .before .before .before .before .more-lines .ensures) end position in
     record { lines = lines; stop = stop }
 
 loop-less : tie.Need-loop-less Inv-loop μ-loop
-loop-less c = omega (arith, c .if1 .left, c .before .before .before .before .more-lines .ensures .lines .text .next, c .before .before .before .before .more-lines .ensures .lines .text .room, wrote-length (c .before .before .before .before .before .before .before .before .before .before .before .before .loop .inv .text))
+loop-less c =
+    let k = c .before .before .before .before .before .before .before .before .before .before .before .before .before .before .before .pre .1 in
+    omega (arith, further-less (c .before .before .before .before .before .before .before .before .before .before .before .before .before .loop .inv) (c .before .before .before .before .before .more-lines .ensures) (c .if1 .left), k .all-is, k .first-is, k .second-is, k .third-is)
 
 loop-again : tie.Need-loop-again Inv-loop μ-loop
-loop-again c = lines-then (c .before .before .before .before .before .before .before .before .before .before .before .before .loop .inv) (c .before .before .before .before .more-lines .ensures .lines)
+loop-again c = lines-then (c .before .before .before .before .before .before .before .before .before .before .before .before .before .loop .inv) (c .before .before .before .before .before .more-lines .ensures .lines)
 
 pub fill-spec : {M : Type 1} → statement M
 fill-spec =

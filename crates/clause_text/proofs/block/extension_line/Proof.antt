@@ -1,8 +1,7 @@
 -- `extension_line` meets its contract.
-use mathlib.Core.Path.{_≡_, refl, _∙_}
+use mathlib.Core.Path.{_≡_, _∙_}
 use Prim.Native.Nat.{_+_, _≤_}
 use native.Mathlib.Omega.{arith}
-use lib.Bits.{or-lt}
 use lib.ListN.{length, length-set}
 use Rattle.decimal.specs.Writing.{wrote-length}
 use Rattle.clause_words.specs.Pieces.{wrote-two}
@@ -23,26 +22,26 @@ room c =
 write-path-requires : tie.Need-write-path-requires
 write-path-requires c κs =
     let s = c .before .before .before .before in
-    let (f, h, w-lt, f-lt) = s .pre .0 in
+    let (f, h, first, second) = s .pre .0 in
     let size = pieces-length (s .args .z) (s .args .x) (s .args .w .0) (s .args .f) in
-    ((f, (h .q-lt, h .u-lt, h .p-lt, h .v-lt, h .i-lt, h .j-lt, refl)), (s .pre .1 .0, omega (arith, size, s .pre .1 .1 .1 .1 .0, s .pre .1 .1 .1 .1 .1)))
+    ((f, first), (s .pre .1 .0, omega (arith, size, s .pre .1 .1 .1 .1 .0, s .pre .1 .1 .1 .1 .1)))
 
 write-middle-requires : tie.Need-write-middle-requires
 write-middle-requires c κs =
     let s = c .before .before .before .before .before .before .before .before .before .before in
-    let (f, h, w-lt, f-lt) = s .pre .0 in
+    let (f, h, first, second) = s .pre .0 in
     let size = pieces-length (s .args .z) (s .args .x) (s .args .w .0) (s .args .f) in
     let a = c .before .before .before .before .before .write-path .ensures .1 in
-    ((f, h), (s .pre .1 .1 .0, omega (arith, size, a .next, wrote-length a, s .pre .1 .1 .1 .1 .0, s .pre .1 .1 .1 .1 .1)))
+    ((f, h, first), (s .pre .1 .1 .0, omega (arith, size, a .next, wrote-length a, s .pre .1 .1 .1 .1 .0, s .pre .1 .1 .1 .1 .1)))
 
 write-path-requires-2 : tie.Need-write-path-requires-2
 write-path-requires-2 c κs =
     let s = c .before .before .before .before .before .before .before .before .before .before .before .before .before .before .before .before .before .before in
-    let (f, h, w-lt, f-lt) = s .pre .0 in
+    let (f, h, first, second) = s .pre .0 in
     let size = pieces-length (s .args .z) (s .args .x) (s .args .w .0) (s .args .f) in
     let a = c .before .before .before .before .before .before .before .before .before .before .before .before .before .write-path .ensures .1 in
     let b = c .before .before .before .before .before .before .before .write-middle .ensures .1 in (
-      (f, (h .q-lt, h .u-lt, h .t-lt, w-lt, or-lt _ _ _ (h .i-lt) (h .k-lt), or-lt _ _ _ (h .j-lt) f-lt, refl)),
+      (f, second),
       (s .pre .1 .1 .1 .0, omega (arith, size, a .next, wrote-length a, b .next, wrote-length b, s .pre .1 .1 .1 .1 .0, s .pre .1 .1 .1 .1 .1)),
     )
 

@@ -15,7 +15,7 @@ use Rattle.clause_text.proofs.keeping.keep_middle.Tie as tie
 some : (c : tie.After-premise) → (1 ≤ c .premise .result) × (c .premise .result ≤ length (c .premise .last .1 .1 .0))
 some c =
     let s = c .before .before in
-    let (some, room, read) = middle-read (s .args .z) (s .args .x) (c .premise .ensures .there (s .pre .0 .0) (s .pre .0 .1) (search needs)) in
+    let (some, room, read) = middle-read (s .args .z) (s .args .x) (c .premise .ensures .there (s .pre .0 .0) (s .pre .0 .1) (s .pre .0 .2) (search needs)) in
     (some, room)
 
 -- the literals stand in the slot
@@ -26,7 +26,7 @@ kept : (c : tie.After-write-literals)
 kept c =
     let s = c .before .before .before .before .before .before .before in
     let p = c .before .before .before .before .before .premise in
-    let (some, room, read) = middle-read (s .args .z) (s .args .x) (p .ensures .there (s .pre .0 .0) (s .pre .0 .1) (search needs)) in
+    let (some, room, read) = middle-read (s .args .z) (s .args .x) (p .ensures .there (s .pre .0 .0) (s .pre .0 .1) (s .pre .0 .2) (search needs)) in
     let e = p .last .1 .1 .0 in
     let size : length (take (p .result - 1) (drop 1 e)) ≤ 7 = omega (arith, length-take-le (p .result - 1) (drop 1 e) (omega (arith, length-drop 1 e)), room, p .kept .1 .1 .0) in
     let (l, most, w) = literals-kept (take (p .result - 1) (drop 1 e)) _ read (c .write-literals .ensures) (omega (arith, size, s .pre .1, c .before .write-literals-arg2 .given .0)) in

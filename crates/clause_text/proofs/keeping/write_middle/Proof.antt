@@ -13,7 +13,7 @@ add-slot : tie.Need-add-slot
 add-slot c = let s = c .before .before .before .before in omega (arith, middle-lt (s .pre .0 .0) (s .pre .0 .1) (middle-slot-is (s .args .z) (s .pre .0 .0) (s .args .x .l) (s .args .x .k)))
 
 middle-in-slot-requires : tie.Need-middle-in-slot-requires
-middle-in-slot-requires c κs = let s = c .before .before .before .before .before .before in ((s .pre .0 .0, s .pre .0 .1, middle-slot-is (s .args .z) (s .pre .0 .0) (s .args .x .l) (s .args .x .k)), s .pre .1 .0)
+middle-in-slot-requires c κs = let s = c .before .before .before .before .before .before in ((s .pre .0 .0, s .pre .0 .1, s .pre .0 .2, middle-slot-is (s .args .z) (s .pre .0 .0) (s .args .x .l) (s .args .x .k)), s .pre .1 .0)
 
 mul-first : tie.Need-mul-first
 mul-first c = let s = c .before .before .before .before .before .before .before in omega (arith, middle-lt (s .pre .0 .0) (s .pre .0 .1) (middle-slot-is (s .args .z) (s .pre .0 .0) (s .args .x .l) (s .args .x .k)))

@@ -9,15 +9,15 @@ use Rattle.clause_text.proofs.keeping.write_path.Statement.{statement}
 use Rattle.clause_text.proofs.keeping.write_path.Tie as tie
 
 mul-slot : tie.Need-mul-slot
-mul-slot c = let s = c .before .before .before in omega (arith, states-le (s .args .z) (s .pre .0 .0) (s .pre .0 .1 .3))
+mul-slot c = let s = c .before .before .before in omega (arith, states-le (s .args .z) (s .pre .0 .0) (s .pre .0 .1 .0 .3))
 
 add-slot : tie.Need-add-slot
-add-slot c = let s = c .before .before .before in omega (arith, states-le (s .args .z) (s .pre .0 .0) (s .pre .0 .1 .3), s .pre .0 .1 .4, s .pre .0 .0 .candidate-subsets, candidate-subsets-le (s .pre .0 .0))
+add-slot c = let s = c .before .before .before in omega (arith, states-le (s .args .z) (s .pre .0 .0) (s .pre .0 .1 .0 .3), s .pre .0 .1 .0 .4, s .pre .0 .0 .candidate-subsets, candidate-subsets-le (s .pre .0 .0))
 
 mul-slot-2 : tie.Need-mul-slot-2
 mul-slot-2 c =
     let s = c .before .before .before .before in
-    omega (arith, sets-le (s .args .z) (s .pre .0 .0) {a = s .args .v .0 * s .args .z .candidate .subsets + s .args .i} (omega (arith, states-le (s .args .z) (s .pre .0 .0) (s .pre .0 .1 .3), s .pre .0 .1 .4, s .pre .0 .0 .candidate-subsets, candidate-subsets-le (s .pre .0 .0))))
+    omega (arith, sets-le (s .args .z) (s .pre .0 .0) {a = s .args .v .0 * s .args .z .candidate .subsets + s .args .i} (omega (arith, states-le (s .args .z) (s .pre .0 .0) (s .pre .0 .1 .0 .3), s .pre .0 .1 .0 .4, s .pre .0 .0 .candidate-subsets, candidate-subsets-le (s .pre .0 .0))))
 
 add-slot-2 : tie.Need-add-slot-2
 add-slot-2 c =

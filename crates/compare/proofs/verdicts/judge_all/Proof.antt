@@ -4,7 +4,7 @@ use Prim.Native.Nat.{_-_, _/_, _%_}
 use native.Mathlib.Omega.{arith}
 use Rattle.meaning.specs.BitSet.{has}
 use Rattle.compare.specs.Verdicts.{unlike}
-use Rattle.compare.proofs.Laws.{Filled, filled-none, filled-more}
+use Rattle.meaning.specs.CountingLaws.{Filled, filled-none, filled-more}
 use borrow.Author.Needs.{needs}
 use Rattle.compare.proofs.verdicts.judge_all.Statement.{statement}
 use Rattle.compare.proofs.verdicts.judge_all.Tie as tie

@@ -1,0 +1,179 @@
+-- Past a stretch of positions: the number of the first position after it, and its indices.
+use mathlib.Core.Path.{_≡_, refl, sym, ap, _∙_, subst}
+use mathlib.Core.Bool.{true, false, _||_}
+use mathlib.Core.Logic.{⊎-elim}
+use Prim.Native.Nat.{ℕ, _+_, _-_, _*_, _/_, _%_, _^_, _≤_, _<_}
+use native.Mathlib.Nat.{mod-lt, mod-eq-of-lt, div-add-mod', div-div-eq-div-mul, mul-le-mul, mul-one, le-refl}
+use native.Mathlib.Omega.{arith}
+use borrow.Author.Tests.{ltb-true, ltb-false}
+use lib.Dec.{ltb}
+use lib.Arith.{digits-lt, digits-div}
+use lib.Pow.{pow-pos, pow-mono}
+use Rattle.meaning.specs.TestLaws.{or-false, or-cases}
+use Rattle.encoding.specs.Numbering.{split}
+use Rattle.clause_sizes.specs.declared.Sizes.{Sizes}
+use Rattle.clause_sizes.specs.Sizes.{Fitting}
+use Rattle.clause_sizes.specs.Limits.{candidate-subsets-le, reference-subsets-le}
+use Rattle.clause_indices.specs.declared.Indices.{Indices}
+use Rattle.clause_indices.specs.Indices.{extensions, extensionIndices}
+use Rattle.clause_order.specs.declared.passing.Place.{Place}
+use Rattle.clause_order.specs.Passes.{Passes, transitionWidth, stateWidth}
+use Rattle.clause_order.specs.Stretches.{PastOf}
+use Rattle.clause_order.proofs.Carries.{at-sets, with-sets, sets-indices, sets-lt, Sets, sets-of, moved, letter-next, state-next, last-letter}
+
+-- ---- the widths
+
+module _ {z : Sizes} (f : Fitting z) where
+  pub two-le : z .candidate .subsets * z .reference .subsets ≤ 256
+  two-le = mul-le-mul (candidate-subsets-le f) (reference-subsets-le f)
+
+  pub three-le : z .candidate .subsets * z .reference .subsets * z .candidate .subsets ≤ 4096
+  three-le = mul-le-mul two-le (candidate-subsets-le f)
+
+  width-is : (letters : ℕ) → z .candidate .subsets * z .reference .subsets * z .candidate .subsets * letters ≡ transitionWidth z * letters
+  width-is letters = rw (f .candidate-subsets, f .reference-subsets)
+
+  transition-some : 0 < transitionWidth z
+  transition-some = mul-le-mul {n₁ = 1} {m₁ = 1} (mul-le-mul {n₁ = 1} {m₁ = 1} (pow-pos (z .candidate .sets)) (pow-pos (z .reference .sets))) (pow-pos (z .candidate .sets))
+
+  module _ {letters : ℕ} (some : 1 ≤ letters) (le : letters ≤ z .letters) where
+    pub width-le : z .candidate .subsets * z .reference .subsets * z .candidate .subsets * letters ≤ 65536
+    width-le = let most : letters ≤ 16 = omega (arith, le, f .letters-le) in mul-le-mul three-le most
+
+    pub width-some : 0 < z .candidate .subsets * z .reference .subsets * z .candidate .subsets * letters
+    width-some = subst (λ w. 0 < w) (sym (width-is letters)) (mul-le-mul {n₁ = 1} {m₁ = 1} transition-some some)
+
+  extensions-le : extensions z ≤ 8_589_934_592
+  extensions-le =
+      let M-le : 2 ^ z .candidate .sets ≤ 16 = pow-mono {j = 4} (f .m-le) in
+      let S-le : 2 ^ z .reference .sets ≤ 16 = pow-mono {j = 4} (f .s-le) in
+      mul-le-mul (mul-le-mul (mul-le-mul (mul-le-mul (mul-le-mul (mul-le-mul (mul-le-mul (mul-le-mul (f .n-le) (f .n-le)) (f .n-le)) (f .r-le)) (f .r-le)) (f .letters-le)) M-le) S-le) M-le
+
+-- the remainder taken away, and one width more
+multiple : (k w : ℕ) → k - k % w + w ≡ (k / w + 1) * w
+multiple k w = let e : k / w * w + k % w ≡ k = div-add-mod' k w in omega arith
+
+-- the test of so many letters
+pub letters-in : (a b : ℕ) → (ltb a 1 || ltb b a) ≡ false → (1 ≤ a) × (a ≤ b)
+letters-in a b e = let (p, q) = or-false (ltb a 1) (ltb b a) e in (ltb-false a 1 p, ltb-false b a q)
+
+pub letters-out : (a b : ℕ) → (ltb a 1 || ltb b a) ≡ true → ¬ ((1 ≤ a) × (a ≤ b))
+letters-out a b e (p, q) = ⊎-elim (λ h. absurd (omega (arith, ltb-true a 1 h))) (λ h. absurd (omega (arith, ltb-true b a h))) (or-cases (ltb a 1) (ltb b a) e)
+
+pub no-past : {z : Sizes} {letters k : ℕ} → ¬ (Fitting z × (1 ≤ letters) × (letters ≤ z .letters)) → PastOf z letters k k
+no-past n = record { is = λ f s l h. absurd (n (f, s, l)) }
+
+pub a-past : {z : Sizes} {letters k j : ℕ} → Fitting z → 1 ≤ letters → letters ≤ z .letters
+    → let w = z .candidate .subsets * z .reference .subsets * z .candidate .subsets * letters in
+    j ≡ (k - k % w + w) % 2 ^ 64 → PastOf z letters k j
+a-past {z} {letters} {k} f some le e = record {
+  is = λ _ _ _ h.
+      let w = z .candidate .subsets * z .reference .subsets * z .candidate .subsets * letters in
+      e ∙ mod-eq-of-lt (omega (arith, extensions-le f, width-le f some le)) ∙ multiple k w ∙ ap (λ w. (k / w + 1) * w) (width-is f letters);
+}
+
+-- ---- the indices
+
+module _ {z : Sizes} (f : Fitting z) {k : ℕ} (s : Sets z k) where
+  abbrev M : ℕ
+  M = 2 ^ z .candidate .sets
+
+  abbrev S : ℕ
+  S = 2 ^ z .reference .sets
+
+  -- which transition the position belongs to
+  pub transition-is : k / transitionWidth z ≡ s .a
+  transition-is =
+      let low : (s .I * S + s .J) * M + s .K < M * S * M = digits-lt (digits-lt (s .I-lt) (s .J-lt)) (s .K-lt) in
+      let e : k ≡ s .a * transitionWidth z + ((s .I * S + s .J) * M + s .K) = omega (arith, s .place) in
+      ap (λ x. x / transitionWidth z) e ∙ digits-div (s .a) low
+
+  pub state-is : k / stateWidth z ≡ s .a / z .letters
+  state-is = sym (div-div-eq-div-mul k (transitionWidth z) (z .letters)) ∙ ap (λ x. x / z .letters) transition-is
+
+module _ (z : Sizes) where
+  first-of : (a : ℕ) → at-sets z a 0 0 0 ≡ a * transitionWidth z
+  first-of a = omega arith
+
+  abbrev parts : ℕ
+  parts = z .candidate .states * z .candidate .states * z .candidate .states * z .reference .states * z .reference .states * z .letters
+
+  some-M : 0 < 2 ^ z .candidate .sets
+  some-M = pow-pos (z .candidate .sets)
+
+  some-S : 0 < 2 ^ z .reference .sets
+  some-S = pow-pos (z .reference .sets)
+
+  -- at the first sets of the part a
+  at-part : {j : ℕ} (a : ℕ) (y : Indices) → j ≡ a * transitionWidth z → a < parts → y ≡ with-sets z a 0 0 0 → (j < extensions z) × (y ≡ extensionIndices z j)
+  at-part {j} a y e h q =
+      let at : at-sets z a 0 0 0 ≡ j = first-of a ∙ sym e in
+      (subst (λ m. m < extensions z) at (sets-lt z a 0 0 0 h some-M some-S some-M), q ∙ sym (sets-indices z a 0 0 0 some-M some-S some-M) ∙ ap (extensionIndices z) at)
+
+  parts-are : parts * transitionWidth z ≡ extensions z
+  parts-are = omega arith
+
+  to-part : {j : ℕ} (a : ℕ) (y : Indices) → j ≡ a * transitionWidth z → a ≤ parts → (y .v .0 < z .reference .states → (a < parts) × (y ≡ with-sets z a 0 0 0))
+      → (j ≤ extensions z) × (y .v .0 < z .reference .states → (j < extensions z) × (y ≡ extensionIndices z j))
+  to-part a y e h g =
+      let le : a * transitionWidth z ≤ parts * transitionWidth z = mul-le-mul h (le-refl (transitionWidth z)) in
+      (omega (arith, e, parts-are), λ v. let t = g v in at-part a y e (t .0) (t .1))
+
+module _ (z : Sizes) (x : Indices) (k : ℕ) where
+  letter-at : {j : ℕ} → Fitting z → PastOf z 1 k j → k < extensions z → j ≡ (k / transitionWidth z + 1) * transitionWidth z
+  letter-at f p h = p .is f (omega arith) (f .letters-some) h ∙ ap (λ w. (k / w + 1) * w) (mul-one (transitionWidth z))
+
+  pub letter-passed : {l j : ℕ} → l ≡ (x .l + 1) % 2 ^ 64 → l < z .letters → PastOf z 1 k j → Passes z (transitionWidth z) x k (record { indices = moved z x (x .v .0) l 0 0 0; position = j })
+  letter-passed {l} {j} l-is hl p = record {
+    same-q = refl;
+    same-p = refl;
+    same-t = refl;
+    same-u = refl;
+    next = λ f h e.
+        let s = sets-of z k h in
+        let q = letter-at f p h in
+        let is = q ∙ ap (λ a. (a + 1) * transitionWidth z) (transition-is f s) in
+        let t = letter-next z x f s (e ∙ s .indices) l-is hl in
+        let (le, in-block) = to-part z (s .a + 1) (moved z x (x .v .0) l 0 0 0) is (omega (arith, s .a-lt)) (λ v. t) in
+        (q, le, in-block);
+  }
+
+  pub letter-wrapped : {l v j : ℕ} → l ≡ (x .l + 1) % 2 ^ 64 → z .letters ≤ l → v ≡ (x .v .0 + 1) % 2 ^ 64 → PastOf z 1 k j
+      → Passes z (transitionWidth z) x k (record { indices = moved z x v 0 0 0 0; position = j })
+  letter-wrapped {l} {v} {j} l-is hl v-is p = record {
+    same-q = refl;
+    same-p = refl;
+    same-t = refl;
+    same-u = refl;
+    next = λ f h e.
+        let s = sets-of z k h in
+        let q = letter-at f p h in
+        let here = e ∙ s .indices in
+        let last = last-letter z x f s here l-is hl in
+        let is = q ∙ ap (λ a. (a + 1) * transitionWidth z) (transition-is f s) ∙ ap (λ a. a * transitionWidth z) last in
+        let (le, in-block) = to-part z ((s .a / z .letters + 1) * z .letters) (moved z x v 0 0 0 0) is (omega (arith, s .a-lt, last)) (λ g. state-next z x f s here v-is g) in
+        (q, le, in-block);
+  }
+
+  pub state-passed : {v j : ℕ} → v ≡ (x .v .0 + 1) % 2 ^ 64 → PastOf z (z .letters) k j → Passes z (stateWidth z) x k (record { indices = moved z x v 0 0 0 0; position = j })
+  state-passed {v} {j} v-is p = record {
+    same-q = refl;
+    same-p = refl;
+    same-t = refl;
+    same-u = refl;
+    next = λ f h e.
+        let s = sets-of z k h in
+        let L = z .letters in
+        let q = p .is f (f .letters-some) (le-refl L) h in
+        let regroup : (b : ℕ) → (b + 1) * (transitionWidth z * L) ≡ (b + 1) * L * transitionWidth z = λ b. omega arith in
+        let is = q ∙ ap (λ b. (b + 1) * stateWidth z) (state-is f s) ∙ regroup (s .a / L) in
+        let less = state-lt f s in
+        let (le, in-block) = to-part z ((s .a / L + 1) * L) (moved z x v 0 0 0 0) is less (λ g. state-next z x f s (e ∙ s .indices) v-is g) in
+        (q, le, in-block);
+  }
+    where
+      state-lt : Fitting z → (s : Sets z k) → (s .a / z .letters + 1) * z .letters
+          ≤ z .candidate .states * z .candidate .states * z .candidate .states * z .reference .states * z .reference .states * z .letters
+      state-lt f s =
+          let less : s .a / z .letters + 1 ≤ z .candidate .states * z .candidate .states * z .candidate .states * z .reference .states * z .reference .states = omega (arith, split (s .a) (z .candidate .states * z .candidate .states * z .candidate .states * z .reference .states * z .reference .states) (z .letters) (s .a-lt) .0) in
+          mul-le-mul less (le-refl (z .letters))

@@ -1,0 +1,4 @@
+pub mod Stores
+pub mod Closures
+pub mod Pairs
+pub mod Rows
