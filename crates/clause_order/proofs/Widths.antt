@@ -1,75 +1,78 @@
 -- Past a stretch of positions: the number of the first position after it, and its indices.
 use mathlib.Core.Path.{_≡_, refl, sym, ap, _∙_, subst}
-use mathlib.Core.Bool.{true, false, _||_}
-use mathlib.Core.Logic.{⊎-elim}
+use mathlib.Core.Bool.{true, false, _||_, true≢false}
 use Prim.Native.Nat.{ℕ, _+_, _-_, _*_, _/_, _%_, _^_, _≤_, _<_}
-use native.Mathlib.Nat.{mod-lt, mod-eq-of-lt, div-add-mod', div-div-eq-div-mul, mul-le-mul, mul-one, le-refl}
+use native.Mathlib.Nat.{mod-eq-of-lt, div-add-mod', div-div-eq-div-mul, mul-le-mul, mul-one, le-refl}
 use native.Mathlib.Omega.{arith}
-use borrow.Author.Tests.{ltb-true, ltb-false}
+use borrow.Author.Tests.{ltb-false, le-ltb}
 use lib.Dec.{ltb}
 use lib.Arith.{digits-lt, digits-div}
-use lib.Pow.{pow-pos, pow-mono}
-use Rattle.meaning.specs.TestLaws.{or-false, or-cases}
+use lib.Pow.{pow-pos}
+use Rattle.meaning.specs.TestLaws.{or-false}
 use Rattle.encoding.specs.Numbering.{split}
 use Rattle.clause_sizes.specs.declared.Sizes.{Sizes}
 use Rattle.clause_sizes.specs.Sizes.{Fitting}
 use Rattle.clause_sizes.specs.Limits.{candidate-subsets-le, reference-subsets-le}
 use Rattle.clause_indices.specs.declared.Indices.{Indices}
 use Rattle.clause_indices.specs.Indices.{extensions, extensionIndices}
-use Rattle.clause_order.specs.declared.passing.Place.{Place}
 use Rattle.clause_order.specs.Passes.{Passes, transitionWidth, stateWidth}
-use Rattle.clause_order.specs.Stretches.{PastOf}
+use Rattle.clause_order.specs.Stretches.{PastOf, extensions-le}
 use Rattle.clause_order.proofs.Carries.{at-sets, with-sets, sets-indices, sets-lt, Sets, sets-of, moved, letter-next, state-next, last-letter}
 
 -- ---- the widths
 
+-- the test of the sizes
+abbrev pub Small : ℕ → ℕ → ℕ → Type 0
+Small a b l = (a ≤ 16) × (b ≤ 16) × (l ≤ 16)
+
+pub sizes-in : (a b l : ℕ) → ((ltb 16 a || ltb 16 b) || ltb 16 l) ≡ false → Small a b l
+sizes-in a b l e =
+    let (both, r) = or-false (ltb 16 a || ltb 16 b) (ltb 16 l) e in
+    let (p, q) = or-false (ltb 16 a) (ltb 16 b) both in
+    (ltb-false 16 a p, ltb-false 16 b q, ltb-false 16 l r)
+
+pub sizes-out : (a b l : ℕ) → ((ltb 16 a || ltb 16 b) || ltb 16 l) ≡ true → ¬ Small a b l
+sizes-out a b l e (p, q, r) =
+    let none : ((ltb 16 a || ltb 16 b) || ltb 16 l) ≡ false = rw (le-ltb 16 a p, le-ltb 16 b q, le-ltb 16 l r) in
+    true≢false (sym e ∙ none)
+
+module _ {a b l : ℕ} (s : Small a b l) where
+  pub two-le : a * b ≤ 256
+  two-le = mul-le-mul (s .0) (s .1)
+
+  pub three-le : a * b * a ≤ 4096
+  three-le = mul-le-mul two-le (s .0)
+
+  pub width-le : a * b * a * l ≤ 65536
+  width-le = mul-le-mul three-le (s .2)
+
 module _ {z : Sizes} (f : Fitting z) where
-  pub two-le : z .candidate .subsets * z .reference .subsets ≤ 256
-  two-le = mul-le-mul (candidate-subsets-le f) (reference-subsets-le f)
-
-  pub three-le : z .candidate .subsets * z .reference .subsets * z .candidate .subsets ≤ 4096
-  three-le = mul-le-mul two-le (candidate-subsets-le f)
-
   width-is : (letters : ℕ) → z .candidate .subsets * z .reference .subsets * z .candidate .subsets * letters ≡ transitionWidth z * letters
   width-is letters = rw (f .candidate-subsets, f .reference-subsets)
 
   transition-some : 0 < transitionWidth z
   transition-some = mul-le-mul {n₁ = 1} {m₁ = 1} (mul-le-mul {n₁ = 1} {m₁ = 1} (pow-pos (z .candidate .sets)) (pow-pos (z .reference .sets))) (pow-pos (z .candidate .sets))
 
-  module _ {letters : ℕ} (some : 1 ≤ letters) (le : letters ≤ z .letters) where
-    pub width-le : z .candidate .subsets * z .reference .subsets * z .candidate .subsets * letters ≤ 65536
-    width-le = let most : letters ≤ 16 = omega (arith, le, f .letters-le) in mul-le-mul three-le most
+  pub fitting-in : {letters : ℕ} → letters ≤ z .letters → Small (z .candidate .subsets) (z .reference .subsets) letters
+  fitting-in le = (candidate-subsets-le f, reference-subsets-le f, omega (arith, le, f .letters-le))
 
-    pub width-some : 0 < z .candidate .subsets * z .reference .subsets * z .candidate .subsets * letters
-    width-some = subst (λ w. 0 < w) (sym (width-is letters)) (mul-le-mul {n₁ = 1} {m₁ = 1} transition-some some)
-
-  extensions-le : extensions z ≤ 8_589_934_592
-  extensions-le =
-      let M-le : 2 ^ z .candidate .sets ≤ 16 = pow-mono {j = 4} (f .m-le) in
-      let S-le : 2 ^ z .reference .sets ≤ 16 = pow-mono {j = 4} (f .s-le) in
-      mul-le-mul (mul-le-mul (mul-le-mul (mul-le-mul (mul-le-mul (mul-le-mul (mul-le-mul (mul-le-mul (f .n-le) (f .n-le)) (f .n-le)) (f .r-le)) (f .r-le)) (f .letters-le)) M-le) S-le) M-le
+  pub width-some : {letters : ℕ} → 1 ≤ letters → 0 < z .candidate .subsets * z .reference .subsets * z .candidate .subsets * letters
+  width-some {letters} some = subst (λ w. 0 < w) (sym (width-is letters)) (mul-le-mul {n₁ = 1} {m₁ = 1} transition-some some)
 
 -- the remainder taken away, and one width more
 multiple : (k w : ℕ) → k - k % w + w ≡ (k / w + 1) * w
 multiple k w = let e : k / w * w + k % w ≡ k = div-add-mod' k w in omega arith
 
--- the test of so many letters
-pub letters-in : (a b : ℕ) → (ltb a 1 || ltb b a) ≡ false → (1 ≤ a) × (a ≤ b)
-letters-in a b e = let (p, q) = or-false (ltb a 1) (ltb b a) e in (ltb-false a 1 p, ltb-false b a q)
-
-pub letters-out : (a b : ℕ) → (ltb a 1 || ltb b a) ≡ true → ¬ ((1 ≤ a) × (a ≤ b))
-letters-out a b e (p, q) = ⊎-elim (λ h. absurd (omega (arith, ltb-true a 1 h))) (λ h. absurd (omega (arith, ltb-true b a h))) (or-cases (ltb a 1) (ltb b a) e)
-
 pub no-past : {z : Sizes} {letters k : ℕ} → ¬ (Fitting z × (1 ≤ letters) × (letters ≤ z .letters)) → PastOf z letters k k
 no-past n = record { is = λ f s l h. absurd (n (f, s, l)) }
 
-pub a-past : {z : Sizes} {letters k j : ℕ} → Fitting z → 1 ≤ letters → letters ≤ z .letters
+pub a-past : {z : Sizes} {letters k j : ℕ}
     → let w = z .candidate .subsets * z .reference .subsets * z .candidate .subsets * letters in
     j ≡ (k - k % w + w) % 2 ^ 64 → PastOf z letters k j
-a-past {z} {letters} {k} f some le e = record {
-  is = λ _ _ _ h.
+a-past {z} {letters} {k} e = record {
+  is = λ f _ le h.
       let w = z .candidate .subsets * z .reference .subsets * z .candidate .subsets * letters in
-      e ∙ mod-eq-of-lt (omega (arith, extensions-le f, width-le f some le)) ∙ multiple k w ∙ ap (λ w. (k / w + 1) * w) (width-is f letters);
+      e ∙ mod-eq-of-lt (omega (arith, extensions-le f, width-le (fitting-in f le))) ∙ multiple k w ∙ ap (λ w. (k / w + 1) * w) (width-is f letters);
 }
 
 -- ---- the indices

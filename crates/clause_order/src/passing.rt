@@ -1,14 +1,14 @@
 // Past the positions of group 3 that share a letter, or a state. Where a list has no paths between two reference states, no clause stands at them.
+use automaton::Automaton;
 use automaton::states::ReferenceState;
 use clause_indices::Indices;
 use clause_sizes::Sizes;
-use clause_sizes::fitting;
 use std::num::wrapping_add_usize;
-ghost use mathlib.Core.Path.{_≡_};
-ghost use Prim.Native.Nat.{_≤_, _<_};
-ghost use Rattle.clause_sizes.specs.Sizes.{Fitting};
 ghost use Rattle.clause_order.specs.Passes.{Passes, transitionWidth, stateWidth};
 ghost use Rattle.clause_order.specs.Stretches.{PastOf};
+
+// The sets of marks that there are at most.
+const MARKINGS: usize = 1 << Automaton::SETS;
 
 // A position by its indices and by its number.
 pub struct Place {
@@ -59,17 +59,18 @@ pub fn past_state(z: Sizes, x: Indices, position: usize) -> Place
     }
 }
 
-// The first multiple past the position of as many positions as so many letters have; the position where no file has these sizes.
+// The first multiple past the position of as many positions as so many letters have; the position where that many have none, or a size is past its limit.
 fn past(z: Sizes, letters: usize, position: usize) -> usize
     ensures { λ r. ⌜ PastOf z letters position r ⌝ }
 {
-    if !fitting(z) {
-        return position;
-    }
-    if (letters < 1) | (letters > z.letters) {
-        return position;
-    }
     let own = z.candidate.subsets;
-    let width = own * z.reference.subsets * own * letters;
+    let other = z.reference.subsets;
+    if (own > MARKINGS) | (other > MARKINGS) | (letters > Automaton::LETTERS) {
+        return position;
+    }
+    let width = own * other * own * letters;
+    if width == 0 {
+        return position;
+    }
     wrapping_add_usize(position - position % width, width)
 }

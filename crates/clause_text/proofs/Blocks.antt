@@ -1,6 +1,7 @@
 -- The lines of a block, one after another, and the lines of group 3 as lines of the file.
 use mathlib.Core.Path.{_≡_, refl, sym, ap, ap₂, _∙_, subst, subst₂}
 use mathlib.Core.Bool.{Bool, true, false, _&&_, _||_, and-false}
+use mathlib.Core.Logic.{_≢_}
 use mathlib.Core.List.{List, [], _∷_, _++_, append-nil}
 use Prim.Native.Nat.{ℕ, zero, suc, _+_, _-_, _*_, _/_, _^_, _≤_, _<_}
 use native.Mathlib.Decide.{ℕ-discrete}
@@ -11,10 +12,9 @@ use lib.Dec.{ltb, leb}
 use lib.IntN.{ℤ}
 use lib.ListN.{length, getD, take, drop, length-append}
 use lib.Seq.{take-at, drop-at}
-use lib.Pow.{pow-mono}
-use lib.Bits.{or-lt}
+use lib.Pow.{pow-pos, pow-mono}
 use Rattle.meaning.specs.TestLaws.{and-true, or-false}
-use Rattle.encoding.specs.Variables.{Task}
+use Rattle.encoding.specs.Variables.{Task, path}
 use Rattle.encoding.specs.Clauses.{each, only, _∪_}
 use Rattle.encoding.specs.Loops.{each-same, each-add}
 use Rattle.encoding.specs.Positions.{positions, at-position}
@@ -22,13 +22,16 @@ use Rattle.decimal.specs.Wrote.{Wrote}
 use Rattle.decimal.specs.Writing.{wrote-none, wrote-then, wrote-length}
 use Rattle.clause_sizes.specs.declared.Sizes.{Sizes}
 use Rattle.clause_sizes.specs.Sizes.{Fitting}
-use Rattle.clause_sizes.specs.Numbers.{keptIn, InFile, numberOf}
+use Rattle.clause_sizes.specs.Limits.{reference-subsets-le}
+use Rattle.clause_sizes.specs.Numbers.{keptIn, InFile, numberOf, Numbered, NumberIfAny}
 use Rattle.clause_variables.specs.Kept.{KeptIfAny}
+use Rattle.clause_variables.specs.FirstPaths.{FirstPaths}
+use Rattle.clause_variables.specs.PathLaws.{from-first}
 use Rattle.clause_indices.specs.declared.Indices.{Indices}
 use Rattle.clause_indices.specs.declared.extent.Extent.{Extent}
 use Rattle.clause_list.specs.Tables.{taskOf, Tables}
 use Rattle.clause_indices.specs.Indices.{Within, pathAt, extensions, extensionIndices, ExtentOf}
-use Rattle.clause_list.specs.Groups.{lastPath, extensionOf}
+use Rattle.clause_list.specs.Groups.{extensionOf}
 use Rattle.clause_list.specs.Digits.{extension-within}
 use Rattle.clause_list.specs.Position.{extensionAt, sharedAt, extensionsAt}
 use Rattle.clause_list.specs.Rows.{kept-path}
@@ -45,31 +48,63 @@ use Rattle.clause_order.specs.Passes.{Passes, transitionWidth, stateWidth}
 use Rattle.clause_line.specs.LineLength.{found-line-le}
 use Rattle.clause_text.specs.Filling.{Lines}
 use Rattle.clause_text.specs.NextLine.{Further}
-use Rattle.clause_text.specs.Kept.{Kept}
-use Rattle.clause_text.specs.Blocks.{pathLiteral, middleOf, pathTexts, middleTexts, ExtensionsShort, Extensions}
+use Rattle.clause_text.specs.Blocks.{signed, middleOf, lineOf, headNumber, lastNumber, Firsts, Texts, ExtensionsShort, Extensions}
 use Rattle.clause_text.specs.LinesOut.{lines-append}
 
 -- ---- a line in three pieces
 
-module _ (z : Sizes) (x : Indices) (w F : ℕ) where
-  abbrev pub head : List ℕ
-  head = spacedText (pathLiteral z true (x .q .0) (x .u .0) (x .p .0) (x .v .0) (x .i) (x .j) ∷ [])
+module _ (z : Sizes) (x : Indices) (head last : ℕ) where
+  abbrev pub first-text : List ℕ
+  first-text = spacedText (signed true head ∷ [])
 
-  abbrev pub middle : List ℕ
-  middle = spacedText (middleOf z (x .p .0) (x .t .0) (x .l) (x .k))
+  abbrev pub middle-text : List ℕ
+  middle-text = spacedText (middleOf z (x .p .0) (x .t .0) (x .l) (x .k))
 
-  abbrev pub last : List ℕ
-  last = spacedText (pathLiteral z false (x .q .0) (x .u .0) (x .t .0) w (x .i ∪ x .k) (x .j ∪ F) ∷ [])
+  abbrev pub last-text : List ℕ
+  last-text = spacedText (signed false last ∷ [])
 
-  line-is : head ++ (middle ++ (last ++ closing)) ≡ lineText (extensionOf z x w F)
-  line-is = line-pieces (pathLiteral z true (x .q .0) (x .u .0) (x .p .0) (x .v .0) (x .i) (x .j)) (middleOf z (x .p .0) (x .t .0) (x .l) (x .k)) (pathLiteral z false (x .q .0) (x .u .0) (x .t .0) w (x .i ∪ x .k) (x .j ∪ F))
+  line-is : first-text ++ (middle-text ++ (last-text ++ closing)) ≡ lineText (lineOf z x head last)
+  line-is = line-pieces (signed true head) (middleOf z (x .p .0) (x .t .0) (x .l) (x .k)) (signed false last)
 
-  pub pieces-length : length (lineText (extensionOf z x w F)) ≡ length head + (length middle + (length last + 2))
+  pub pieces-length : length (lineText (lineOf z x head last)) ≡ length first-text + (length middle-text + (length last-text + 2))
   pieces-length = ap length (sym line-is) ∙ simp length-append
 
-  pub line-written : {d e f g h : List ℕ} {at a b c end : ℕ} → Wrote d at head e a → Wrote e a middle f b → Wrote f b last g c → Wrote g c closing h end
-      → Wrote d at (lineText (extensionOf z x w F)) h end
+  pub line-written : {d e f g h : List ℕ} {at a b c end : ℕ} → Wrote d at first-text e a → Wrote e a middle-text f b → Wrote f b last-text g c → Wrote g c closing h end
+      → Wrote d at (lineText (lineOf z x head last)) h end
   line-written {d} {h} {at} {end} i j k l = subst (λ t. Wrote d at t h end) line-is (wrote-then i (wrote-then j (wrote-then k l)))
+
+-- ---- the numbers of the paths
+
+-- that of a path after the first one
+module _ {z : Sizes} (f : Fitting z) {I J : ℕ} (hI : I < 2 ^ z .candidate .sets) (hJ : J < 2 ^ z .reference .sets) where
+  pub after-le : (I * z .reference .subsets ≤ 256) × (I * z .reference .subsets + J ≤ 256)
+  after-le =
+      let m : 2 ^ z .candidate .sets ≤ 16 = pow-mono {j = 4} (f .m-le) in
+      let most : suc I * z .reference .subsets ≤ 256 = mul-le-mul {n₂ = 16} (omega (arith, hI, m)) (reference-subsets-le f) in
+      (omega (arith, most), omega (arith, most, hJ, f .reference-subsets))
+
+  pub number-le : (k : ℕ) → k ≤ 4_199_424 → k + (I * z .reference .subsets + J) ≤ 9_999_999
+  number-le k h = omega (arith, after-le .1)
+
+-- those of the first paths from q and u to p tell whether u has paths to v
+module _ {z : Sizes} {destinations marks : List ℕ} (tables : Tables z destinations marks) {q u p v : ℕ} (hq : q < z .candidate .states) (hu : u < z .reference .states)
+    (hp : p < z .candidate .states) (hv : v < z .reference .states) {numbers : List ℕ} (f : FirstPaths z q u p numbers) where
+  number-is : NumberIfAny z (path q u p v 0 0) (getD numbers v 0)
+  number-is = f .each v (omega (arith, tables .fits .r-le))
+
+  pub first-absent : getD numbers v 0 ≡ 0 → keptIn z u v ≡ false
+  first-absent e = go (keptIn z u v) refl
+    where
+      go : (b : Bool) → keptIn z u v ≡ b → keptIn z u v ≡ false
+      go true k =
+          let there = kept-path tables hq hu hp hv (pow-pos (z .candidate .sets)) (pow-pos (z .reference .sets)) k in
+          absurd (omega (arith, e, number-is .there (tables .fits) there .some))
+      go false k = k
+
+  pub first-there : {k : ℕ} → k ≡ getD numbers v 0 → k ≢ 0 → (keptIn z u v ≡ true) × Numbered z (path q u p v 0 0) k
+  first-there e n =
+      let (fits, there) = number-is .found (omega (arith, e, n)) in
+      (there .0 .6, subst (Numbered z (path q u p v 0 0)) (sym e) (number-is .there fits there))
 
 -- ---- lines of positions one after another
 
@@ -122,20 +157,14 @@ module _ {z : Sizes} {destinations marks : List ℕ} where
 
 -- ---- the loop over the lines of a block
 
-pub extensions-le : {z : Sizes} → Fitting z → extensions z ≤ 8_589_934_592
-extensions-le {z} f =
-    let M-le : 2 ^ z .candidate .sets ≤ 16 = pow-mono {j = 4} (f .m-le) in
-    let S-le : 2 ^ z .reference .sets ≤ 16 = pow-mono {j = 4} (f .s-le) in
-    mul-le-mul (mul-le-mul (mul-le-mul (mul-le-mul (mul-le-mul (mul-le-mul (mul-le-mul (mul-le-mul (f .n-le) (f .n-le)) (f .n-le)) (f .r-le)) (f .r-le)) (f .letters-le)) M-le) S-le) M-le
-
--- the lines on to a position are written, x has that position's indices as long as the block goes on, and texts are kept for x
-pub record AtBlock (z : Sizes) (destinations marks : List ℕ) (from : ℕ) (d : List ℕ) (at : ℕ) (e heads headSizes middles middleSizes lasts lastSizes : List ℕ) (x : Indices) (position to : ℕ) : Type 0 where
+-- the lines on to a position are written, x has that position's indices as long as the block goes on, the first paths are those of x, and texts are kept
+pub record AtBlock (z : Sizes) (shorter longer destinations marks : List ℕ) (from : ℕ) (d : List ℕ) (at : ℕ) (e heads headSizes middles middleSizes lasts lastSizes : List ℕ) (x : Indices) (position to : ℕ) : Type 0 where
   pub lines : Extensions z destinations marks from d at e to position
   pub here : x .v .0 < z .reference .states → (position < extensions z) × (x ≡ extensionIndices z position)
   pub some : z .reference .states ≤ x .v .0 → from < position
-  pub heads-kept : Kept (pathTexts z true (x .q .0) (x .u .0) (x .p .0)) 16 4096 heads headSizes
-  pub middles-kept : Kept (middleTexts z (x .p .0) (x .t .0)) 96 256 middles middleSizes
-  pub lasts-kept : Kept (pathTexts z false (x .q .0) (x .u .0) (x .t .0)) 16 4096 lasts lastSizes
+  pub to-p : FirstPaths z (x .q .0) (x .u .0) (x .p .0) shorter
+  pub to-t : FirstPaths z (x .q .0) (x .u .0) (x .t .0) longer
+  pub texts : Texts z heads headSizes middles middleSizes lasts lastSizes
 
 module _ {z : Sizes} {destinations marks : List ℕ} (tables : Tables z destinations marks) {position : ℕ} {x : Indices} (h : position < extensions z) (is : x ≡ extensionIndices z position) where
   pub indices-within : Within z x
@@ -143,6 +172,15 @@ module _ {z : Sizes} {destinations marks : List ℕ} (tables : Tables z destinat
 
   pub indices-lt : (x .v .0 < 16) × (x .l < 16)
   indices-lt = (omega (arith, indices-within .v-lt, tables .fits .r-le), omega (arith, indices-within .l-lt, tables .fits .letters-le))
+
+  -- which paths there are
+  shared-is : {w : ℕ} → w ≡ getD destinations (x .v .0 * 16 + x .l) 0 → sharedAt z destinations position ≡ (keptIn z (x .u .0) (x .v .0) && keptIn z (x .u .0) w)
+  shared-is w-is =
+      sym (ap (λ t. keptIn z (x .u .0) (x .v .0) && keptIn z (x .u .0) t) w-is
+      ∙ ap (λ (y : Indices). keptIn z (y .u .0) (y .v .0) && keptIn z (y .u .0) (getD destinations (y .v .0 * 16 + y .l) 0)) is)
+
+  kept-in : (v : ℕ) → KeptIfAny z (x .u .0) v (keptIn z (x .u .0) v)
+  kept-in v = record { there = λ _. refl; none = λ l. absurd (omega (arith, indices-within .u-lt, tables .fits .r-le)) }
 
   module _ {w F : ℕ} (w-is : w ≡ getD destinations (x .v .0 * 16 + x .l) 0) (F-is : F ≡ getD marks (x .v .0 * 16 + x .l) 0) where
     clause-is : extensionOf z x w F ≡ extensionAt z destinations marks position
@@ -153,62 +191,61 @@ module _ {z : Sizes} {destinations marks : List ℕ} (tables : Tables z destinat
     pub step-lt : (w < z .reference .states) × (F < 2 ^ z .reference .sets)
     step-lt = (rw w-is (tables .step-lt _ _ (indices-within .v-lt) (indices-within .l-lt)), rw F-is (tables .marks-lt _ _ (indices-within .v-lt) (indices-within .l-lt)))
 
-    pub line-short : ExtensionsShort z destinations marks → sharedAt z destinations position ≡ true → length (lineText (extensionOf z x w F)) ≤ 80
-    line-short short shared = subst (λ c. length (lineText c) ≤ 80) (sym clause-is) (short position h shared)
+    -- the first paths to v and to w are there
+    module _ {shorter longer : List ℕ} {head last : ℕ} (to-p : FirstPaths z (x .q .0) (x .u .0) (x .p .0) shorter) (to-t : FirstPaths z (x .q .0) (x .u .0) (x .t .0) longer)
+        (head-is : head ≡ getD shorter (x .v .0) 0) (last-is : last ≡ getD longer w 0) (some-head : head ≢ 0) (some-last : last ≢ 0) where
+      first : (keptIn z (x .u .0) (x .v .0) ≡ true) × Numbered z (path (x .q .0) (x .u .0) (x .p .0) (x .v .0) 0 0) head
+      first = let i = indices-within in first-there tables (i .q-lt) (i .u-lt) (i .p-lt) (i .v-lt) to-p head-is some-head
 
-    one-line : {d e : List ℕ} {at k : ℕ} → sharedAt z destinations position ≡ true → Wrote d at (lineText (extensionOf z x w F)) e k
-        → Extensions z destinations marks position d at e k (position + 1)
-    unfolding each only
-    one-line {d} {e} {at} {k} yes-shared v =
-        let here : position ≡ position + 0 = omega arith in
-        record {
-          count = 1;
-          within = omega arith;
-          text = subst (λ cs. Wrote d at (linesText cs) e k)
-              (sym (ap (λ b. only b (extensionAt z destinations marks position)) yes-shared) ∙ ap (extensionsAt z destinations marks) here)
-              (subst (λ t. Wrote d at t e k) (ap lineText clause-is ∙ sym (append-nil _)) v);
-          next = refl;
-        }
+      second : (keptIn z (x .u .0) w ≡ true) × Numbered z (path (x .q .0) (x .u .0) (x .t .0) w 0 0) last
+      second = let i = indices-within in first-there tables (i .q-lt) (i .u-lt) (i .t-lt) (step-lt .0) to-t last-is some-last
 
-    pub line-more : {from : ℕ} {d : List ℕ} {at : ℕ} {e f heads headSizes middles middleSizes lasts lastSizes : List ℕ} {to r : ℕ} {y : Indices}
-        → Extensions z destinations marks from d at e to position → sharedAt z destinations position ≡ true → Wrote e to (lineText (extensionOf z x w F)) f r → Follows z x y
-        → Kept (pathTexts z true (x .q .0) (x .u .0) (x .p .0)) 16 4096 heads headSizes → Kept (middleTexts z (x .p .0) (x .t .0)) 96 256 middles middleSizes
-        → Kept (pathTexts z false (x .q .0) (x .u .0) (x .t .0)) 16 4096 lasts lastSizes
-        → AtBlock z destinations marks from d at f heads headSizes middles middleSizes lasts lastSizes y (position + 1) r
-    line-more {heads} {headSizes} {middles} {middleSizes} {lasts} {lastSizes} s shared v g a b c = record {
-      lines = extensions-then s (one-line shared v);
-      here = λ l. g .next (tables .fits) position h is l;
-      some = λ l. omega (arith, s .next);
-      heads-kept = rw (g .same-q, g .same-u, g .same-p) a;
-      middles-kept = rw (g .same-p, g .same-t) b;
-      lasts-kept = rw (g .same-q, g .same-u, g .same-t) c;
-    }
+      shared : sharedAt z destinations position ≡ true
+      shared = shared-is w-is ∙ and-true (first .0) (second .0)
 
-  -- ---- which paths there are
+      pub path-there : InFile z (pathAt x)
+      path-there = let i = indices-within in kept-path tables (i .q-lt) (i .u-lt) (i .p-lt) (i .v-lt) (i .i-lt) (i .j-lt) (first .0)
 
-  pub row-is : {b : Bool} → KeptIfAny z (x .u .0) (x .v .0) b → b ≡ keptIn z (x .u .0) (x .v .0)
-  row-is k = k .there (omega (arith, indices-within .u-lt, tables .fits .r-le))
+      pub firsts : Firsts z head last F
+      firsts = record { head-some = first .1 .some; head-le = first .1 .small; last-some = second .1 .some; last-le = second .1 .small; marks-lt = step-lt .1 }
 
-  module _ {w : ℕ} (w-is : w ≡ getD destinations (x .v .0 * 16 + x .l) 0) where
-    pub step-row-is : {c : Bool} → KeptIfAny z (x .u .0) w c → c ≡ keptIn z (x .u .0) w
-    step-row-is k = k .there (omega (arith, indices-within .u-lt, tables .fits .r-le))
+      line-of : lineOf z x (headNumber z x head) (lastNumber z x last F) ≡ extensionAt z destinations marks position
+      line-of =
+          let rest : ℕ → ℕ → ℕ = λ I J. I * z .reference .subsets + J in
+          ap₂ (lineOf z x)
+          (ap (λ k. k + rest (x .i) (x .j)) (first .1 .is) ∙ sym (from-first (tables .fits) (x .q .0) (x .u .0) (x .p .0) (x .v .0) (x .i) (x .j)))
+          (ap (λ k. k + rest (x .i ∪ x .k) (x .j ∪ F)) (second .1 .is) ∙ sym (from-first (tables .fits) (x .q .0) (x .u .0) (x .t .0) w (x .i ∪ x .k) (x .j ∪ F)))
+          ∙ clause-is
 
-    shared-is : sharedAt z destinations position ≡ (keptIn z (x .u .0) (x .v .0) && keptIn z (x .u .0) w)
-    shared-is =
-        sym (ap (λ t. keptIn z (x .u .0) (x .v .0) && keptIn z (x .u .0) t) w-is
-        ∙ ap (λ (y : Indices). keptIn z (y .u .0) (y .v .0) && keptIn z (y .u .0) (getD destinations (y .v .0 * 16 + y .l) 0)) is)
+      pub line-short : ExtensionsShort z destinations marks → length (lineText (lineOf z x (headNumber z x head) (lastNumber z x last F))) ≤ 80
+      line-short short = subst (λ c. length (lineText c) ≤ 80) (sym line-of) (short position h shared)
 
-    pub shared-both : {b c : Bool} → KeptIfAny z (x .u .0) (x .v .0) b → KeptIfAny z (x .u .0) w c → b ≡ true → c ≡ true → sharedAt z destinations position ≡ true
-    shared-both k l hb hc = shared-is ∙ and-true (sym (row-is k) ∙ hb) (sym (step-row-is l) ∙ hc)
+      one-line : {d e : List ℕ} {at k : ℕ} → Wrote d at (lineText (lineOf z x (headNumber z x head) (lastNumber z x last F))) e k
+          → Extensions z destinations marks position d at e k (position + 1)
+      unfolding each only
+      one-line {d} {e} {at} {k} v =
+          let here : position ≡ position + 0 = omega arith in
+          record {
+            count = 1;
+            within = omega arith;
+            text = subst (λ cs. Wrote d at (linesText cs) e k)
+                (sym (ap (λ b. only b (extensionAt z destinations marks position)) shared) ∙ ap (extensionsAt z destinations marks) here)
+                (subst (λ t. Wrote d at t e k) (ap lineText line-of ∙ sym (append-nil _)) v);
+            next = refl;
+          }
 
-    pub paths-there : {F : ℕ} {b c : Bool} → F < 2 ^ z .reference .sets → KeptIfAny z (x .u .0) (x .v .0) b → KeptIfAny z (x .u .0) w c → b ≡ true → c ≡ true
-        → InFile z (pathAt x) × InFile z (lastPath x w F)
-    paths-there {F} hF k l hb hc =
-        let i = indices-within in
-        let w-lt : w < z .reference .states = rw w-is (tables .step-lt _ _ (i .v-lt) (i .l-lt)) in (
-          kept-path tables (i .q-lt) (i .u-lt) (i .p-lt) (i .v-lt) (i .i-lt) (i .j-lt) (sym (row-is k) ∙ hb),
-          kept-path tables (i .q-lt) (i .u-lt) (i .t-lt) w-lt (or-lt _ _ _ (i .i-lt) (i .k-lt)) (or-lt _ _ _ (i .j-lt) hF) (sym (step-row-is l) ∙ hc),
-        )
+      pub line-more : {from : ℕ} {d : List ℕ} {at : ℕ} {e f heads headSizes middles middleSizes lasts lastSizes : List ℕ} {to r : ℕ} {y : Indices}
+          → Extensions z destinations marks from d at e to position → Wrote e to (lineText (lineOf z x (headNumber z x head) (lastNumber z x last F))) f r → Follows z x y
+          → Texts z heads headSizes middles middleSizes lasts lastSizes
+          → AtBlock z shorter longer destinations marks from d at f heads headSizes middles middleSizes lasts lastSizes y (position + 1) r
+      line-more {heads} {headSizes} {middles} {middleSizes} {lasts} {lastSizes} s v g t = record {
+        lines = extensions-then s (one-line v);
+        here = λ l. g .next (tables .fits) position h is l;
+        some = λ l. omega (arith, s .next);
+        to-p = rw (g .same-q, g .same-u, g .same-p) to-p;
+        to-t = rw (g .same-q, g .same-u, g .same-t) to-t;
+        texts = t;
+      }
 
   -- ---- a stretch without a clause
 
@@ -221,11 +258,11 @@ module _ {z : Sizes} {destinations marks : List ℕ} (tables : Tables z destinat
       go (yes p) = ap (sharedAt z destinations) p ∙ no-clause
       go (no p) = f .fails i (omega arith) (stretch-is position W (f .some) .same i le (omega arith))
 
-  pub skip-more : (W : ℕ) {from : ℕ} {d : List ℕ} {at : ℕ} {e heads headSizes middles middleSizes lasts lastSizes : List ℕ} {to : ℕ} {y : Place}
+  pub skip-more : (W : ℕ) {shorter longer : List ℕ} {from : ℕ} {d : List ℕ} {at : ℕ} {e heads headSizes middles middleSizes lasts lastSizes : List ℕ} {to : ℕ} {y : Place}
       → Failing (extensions z) (sharedAt z destinations) position W → sharedAt z destinations position ≡ false
-      → AtBlock z destinations marks from d at e heads headSizes middles middleSizes lasts lastSizes x position to → Passes z W x position y
-      → AtBlock z destinations marks from d at e heads headSizes middles middleSizes lasts lastSizes (y .indices) (y .position) to
-  skip-more W {from} {d} {at} {e} {heads} {headSizes} {middles} {middleSizes} {lasts} {lastSizes} {to} {y} f no-clause B g =
+      → AtBlock z shorter longer destinations marks from d at e heads headSizes middles middleSizes lasts lastSizes x position to → Passes z W x position y
+      → AtBlock z shorter longer destinations marks from d at e heads headSizes middles middleSizes lasts lastSizes (y .indices) (y .position) to
+  skip-more W {e} {to} {y} f no-clause B g =
       let (j-is, j-le, on) = g .next (tables .fits) h is in
       let past = stretch-is position W (f .some) .past in
       let l = B .lines in
@@ -233,9 +270,9 @@ module _ {z : Sizes} {destinations marks : List ℕ} (tables : Tables z destinat
         lines = extensions-then l (extensions-absent position (y .position) e to (omega arith) j-le (omega (arith, l .text .room, wrote-length (l .text))) (absent-from W f no-clause j-is));
         here = on;
         some = λ _. omega (arith, l .next);
-        heads-kept = rw (g .same-q, g .same-u, g .same-p) (B .heads-kept);
-        middles-kept = rw (g .same-p, g .same-t) (B .middles-kept);
-        lasts-kept = rw (g .same-q, g .same-u, g .same-t) (B .lasts-kept);
+        to-p = rw (g .same-q, g .same-u, g .same-p) (B .to-p);
+        to-t = rw (g .same-q, g .same-u, g .same-t) (B .to-t);
+        texts = B .texts;
       }
 
   pub skip-less : (W : ℕ) {y : Place} → Failing (extensions z) (sharedAt z destinations) position W → Passes z W x position y → (position < y .position) × (y .position ≤ extensions z)
@@ -244,21 +281,25 @@ module _ {z : Sizes} {destinations marks : List ℕ} (tables : Tables z destinat
       (omega (arith, j-is, stretch-is position W (f .some) .past), j-le)
 
   -- u has no paths to v, or none to the step from v by l
-  pub state-failing : {b : Bool} → KeptIfAny z (x .u .0) (x .v .0) b → b ≡ false → Failing (extensions z) (sharedAt z destinations) position (stateWidth z) × (sharedAt z destinations position ≡ false)
-  state-failing k n =
+  pub state-failing : {shorter : List ℕ} {head : ℕ} → FirstPaths z (x .q .0) (x .u .0) (x .p .0) shorter → head ≡ getD shorter (x .v .0) 0 → head ≡ 0
+      → Failing (extensions z) (sharedAt z destinations) position (stateWidth z) × (sharedAt z destinations position ≡ false)
+  state-failing to-p e none =
       let f = tables .fits in
-      let i = indices-within in (
-        subst (Failing (extensions z) (sharedAt z destinations) position) (ap (λ w. w * z .letters) (marking-width f)) (no-row f destinations is k i n),
-        shared-is refl ∙ ap (λ t. t && keptIn z (x .u .0) (getD destinations (x .v .0 * 16 + x .l) 0)) (sym (row-is k) ∙ n),
+      let i = indices-within in
+      let n = first-absent tables (i .q-lt) (i .u-lt) (i .p-lt) (i .v-lt) to-p (sym e ∙ none) in (
+        subst (Failing (extensions z) (sharedAt z destinations) position) (ap (λ w. w * z .letters) (marking-width f)) (no-row f destinations is (kept-in (x .v .0)) i n),
+        shared-is refl ∙ ap (λ t. t && keptIn z (x .u .0) (getD destinations (x .v .0 * 16 + x .l) 0)) n,
       )
 
-  pub letter-failing : {w : ℕ} {c : Bool} → w ≡ getD destinations (x .v .0 * 16 + x .l) 0 → KeptIfAny z (x .u .0) w c → c ≡ false
-      → Failing (extensions z) (sharedAt z destinations) position (transitionWidth z) × (sharedAt z destinations position ≡ false)
-  letter-failing {w} d k n =
+  pub letter-failing : {w : ℕ} {longer : List ℕ} {last : ℕ} → w ≡ getD destinations (x .v .0 * 16 + x .l) 0 → FirstPaths z (x .q .0) (x .u .0) (x .t .0) longer → last ≡ getD longer w 0
+      → last ≡ 0 → Failing (extensions z) (sharedAt z destinations) position (transitionWidth z) × (sharedAt z destinations position ≡ false)
+  letter-failing {w} d to-t e none =
       let f = tables .fits in
-      let i = indices-within in (
-        subst (Failing (extensions z) (sharedAt z destinations) position) (marking-width f) (no-step f destinations is k d i n),
-        shared-is d ∙ ap (λ t. keptIn z (x .u .0) (x .v .0) && t) (sym (step-row-is d k) ∙ n) ∙ and-false (keptIn z (x .u .0) (x .v .0)),
+      let i = indices-within in
+      let w-lt : w < z .reference .states = rw d (tables .step-lt _ _ (i .v-lt) (i .l-lt)) in
+      let n = first-absent tables (i .q-lt) (i .u-lt) (i .t-lt) w-lt to-t (sym e ∙ none) in (
+        subst (Failing (extensions z) (sharedAt z destinations) position) (marking-width f) (no-step f destinations is (kept-in w) d i n),
+        shared-is d ∙ ap (λ t. keptIn z (x .u .0) (x .v .0) && t) n ∙ and-false (keptIn z (x .u .0) (x .v .0)),
       )
 
 -- ---- the lines of group 3 are lines of the file

@@ -1,9 +1,9 @@
 // As many lines as fit. The reference has been tested: nothing here looks at it again.
 use crate::block::block_lines;
+use crate::keeping::LITERAL_BYTES;
+use crate::keeping::LITERALS;
 use crate::keeping::MIDDLE_BYTES;
 use crate::keeping::MIDDLES;
-use crate::keeping::PATH_BYTES;
-use crate::keeping::PATHS;
 use automaton::Automaton;
 use automaton::states::ReferenceState;
 use clause_indices::extent::Extent;
@@ -18,6 +18,7 @@ ghost use Rattle.clause_sizes.specs.Numbers.{numberOf};
 ghost use Rattle.clause_list.specs.Tables.{taskOf, Tables};
 ghost use Rattle.clause_indices.specs.Indices.{ExtentOf};
 ghost use Rattle.clause_list.specs.Next.{«next-clause»};
+ghost use Rattle.clause_text.specs.Blocks.{Texts};
 ghost use Rattle.clause_text.specs.Filling.{Filling};
 ghost use Rattle.clause_text.specs.NextLine.{NextLine, Further};
 
@@ -43,12 +44,12 @@ pub fn fill(
 {
     let mut x = from;
     let mut at: usize = 0;
-    let mut heads = [0u8; PATH_BYTES];
-    let mut head_sizes = [0u8; PATHS];
+    let mut heads = [0u8; LITERAL_BYTES];
+    let mut head_sizes = [0usize; LITERALS];
     let mut middles = [0u8; MIDDLE_BYTES];
-    let mut middle_sizes = [0u8; MIDDLES];
-    let mut lasts = [0u8; PATH_BYTES];
-    let mut last_sizes = [0u8; PATHS];
+    let mut middle_sizes = [0usize; MIDDLES];
+    let mut lasts = [0u8; LITERAL_BYTES];
+    let mut last_sizes = [0usize; LITERALS];
     loop {
         let next = more_lines(
             z,
@@ -85,17 +86,19 @@ fn more_lines(
     destinations: &[u8; Automaton::CELLS],
     marks: &[u8; Automaton::CELLS],
     from: usize,
-    heads: &mut [u8; PATH_BYTES],
-    head_sizes: &mut [u8; PATHS],
+    heads: &mut [u8; LITERAL_BYTES],
+    head_sizes: &mut [usize; LITERALS],
     middles: &mut [u8; MIDDLE_BYTES],
-    middle_sizes: &mut [u8; MIDDLES],
-    lasts: &mut [u8; PATH_BYTES],
-    last_sizes: &mut [u8; PATHS],
+    middle_sizes: &mut [usize; MIDDLES],
+    lasts: &mut [u8; LITERAL_BYTES],
+    last_sizes: &mut [usize; LITERALS],
     text: &mut [u8],
     at: usize,
 ) -> Filled
     requires { ⌜ Tables z (now destinations) (now marks) × (start .0 < z .reference .states) ⌝ }
     requires { ⌜ ExtentOf z g × (at ≤ length (now text)) ⌝ }
+    requires { ⌜ Texts z (now heads) (now «head_sizes») (now middles) (now «middle_sizes») (now lasts) (now «last_sizes») ⌝ }
+    ensures { λ r. ⌜ Texts z (now (heads .exit)) (now («head_sizes» .exit)) (now (middles .exit)) (now («middle_sizes» .exit)) (now (lasts .exit)) (now («last_sizes» .exit)) ⌝ }
     ensures { λ r. ⌜ Further (taskOf z (start .0) (now (destinations .entry)) (now (marks .entry))) (numberOf z) from (now (text .entry)) at (now (text .exit)) (r .end) (r .position) ⌝ }
 {
     let room = text.len() - at;

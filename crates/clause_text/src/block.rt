@@ -1,12 +1,11 @@
-// The lines of group 3 by blocks: over a block q, p, t and u stay, so that the texts of literals are kept.
+// The lines of group 3 by blocks: over a block q, p, t and u stay, so that the numbers of the first paths are computed once.
 use crate::batch::Filled;
+use crate::keeping::LITERAL_BYTES;
+use crate::keeping::LITERALS;
 use crate::keeping::MIDDLE_BYTES;
 use crate::keeping::MIDDLES;
-use crate::keeping::PATH_BYTES;
-use crate::keeping::PATHS;
-use crate::keeping::forget;
+use crate::keeping::write_literal;
 use crate::keeping::write_middle;
-use crate::keeping::write_path;
 use automaton::Automaton;
 use automaton::states::ReferenceState;
 use clause_indices::Indices;
@@ -17,9 +16,8 @@ use clause_order::following;
 use clause_order::passing::past_letter;
 use clause_order::passing::past_state;
 use clause_sizes::Sizes;
-use clause_variables::kept;
+use clause_variables::first_paths;
 ghost use mathlib.Core.Path.{_≡_};
-ghost use mathlib.Core.Bool.{true, false};
 ghost use Prim.Native.Nat.{_+_, _≤_, _<_};
 ghost use lib.ListN.{length};
 ghost use Rattle.decimal.specs.Wrote.{Wrote};
@@ -27,39 +25,43 @@ ghost use Rattle.clause_sizes.specs.Sizes.{Fitting};
 ghost use Rattle.clause_list.specs.Tables.{Tables};
 ghost use Rattle.clause_sizes.specs.Numbers.{InFile};
 ghost use Rattle.clause_indices.specs.Indices.{Within, pathAt, extensions, extensionIndices};
-ghost use Rattle.clause_list.specs.Groups.{lastPath, extensionOf};
 ghost use Rattle.clause_words.specs.Text.{lineText};
-ghost use Rattle.clause_text.specs.Kept.{Kept};
-ghost use Rattle.clause_text.specs.Blocks.{pathTexts, middleTexts, ExtensionsShort, Extensions};
+ghost use Rattle.clause_variables.specs.FirstPaths.{FirstPaths};
+ghost use Rattle.clause_text.specs.Blocks.{lineOf, headNumber, lastNumber, Firsts, NumberAt, Texts, ExtensionsShort, Extensions};
 
 // Writes the lines from position `from` of group 3 on to the end of its block, as long as there are 80 bytes for each. Where the list has
-// no clause it goes on to the next letter or state. What the six buffers of kept texts hold does not matter.
+// no clause it goes on to the next letter or state.
 pub fn block_lines(
     z: Sizes,
     destinations: &[u8; Automaton::CELLS],
     marks: &[u8; Automaton::CELLS],
     from: usize,
-    heads: &mut [u8; PATH_BYTES],
-    head_sizes: &mut [u8; PATHS],
+    heads: &mut [u8; LITERAL_BYTES],
+    head_sizes: &mut [usize; LITERALS],
     middles: &mut [u8; MIDDLE_BYTES],
-    middle_sizes: &mut [u8; MIDDLES],
-    lasts: &mut [u8; PATH_BYTES],
-    last_sizes: &mut [u8; PATHS],
+    middle_sizes: &mut [usize; MIDDLES],
+    lasts: &mut [u8; LITERAL_BYTES],
+    last_sizes: &mut [usize; LITERALS],
     text: &mut [u8],
     at: usize,
 ) -> Filled
     requires { ⌜ Tables z (now destinations) (now marks) ⌝ }
     requires { ⌜ ExtensionsShort z (now destinations) (now marks) ⌝ }
     requires { ⌜ (from < extensions z) × (at + 80 ≤ length (now text)) ⌝ }
+    requires { ⌜ Texts z (now heads) (now «head_sizes») (now middles) (now «middle_sizes») (now lasts) (now «last_sizes») ⌝ }
     ensures { λ r. ⌜ Extensions z (now (destinations .entry)) (now (marks .entry)) from (now (text .entry)) at (now (text .exit)) (r .end) (r .position) ⌝ }
     ensures { λ r. ⌜ from < r .position ⌝ }
+    ensures { λ r. ⌜ Texts z (now (heads .exit)) (now («head_sizes» .exit)) (now (middles .exit)) (now («middle_sizes» .exit)) (now (lasts .exit)) (now («last_sizes» .exit)) ⌝ }
 {
-    forget(head_sizes);
-    forget(middle_sizes);
-    forget(last_sizes);
     let x = extension_indices(z, from);
+    let mut shorter = [0usize; Automaton::STATES];
+    first_paths(z, x.q, x.u, x.p, &mut shorter);
+    let mut longer = [0usize; Automaton::STATES];
+    first_paths(z, x.q, x.u, x.t, &mut longer);
     lines_from(
         z,
+        &shorter,
+        &longer,
         destinations,
         marks,
         x,
@@ -75,29 +77,32 @@ pub fn block_lines(
     )
 }
 
+// `shorter` and `longer` have the numbers of the first paths from q and u to p and to t.
 fn lines_from(
     z: Sizes,
+    shorter: &[usize; Automaton::STATES],
+    longer: &[usize; Automaton::STATES],
     destinations: &[u8; Automaton::CELLS],
     marks: &[u8; Automaton::CELLS],
     first: Indices,
     from: usize,
-    heads: &mut [u8; PATH_BYTES],
-    head_sizes: &mut [u8; PATHS],
+    heads: &mut [u8; LITERAL_BYTES],
+    head_sizes: &mut [usize; LITERALS],
     middles: &mut [u8; MIDDLE_BYTES],
-    middle_sizes: &mut [u8; MIDDLES],
-    lasts: &mut [u8; PATH_BYTES],
-    last_sizes: &mut [u8; PATHS],
+    middle_sizes: &mut [usize; MIDDLES],
+    lasts: &mut [u8; LITERAL_BYTES],
+    last_sizes: &mut [usize; LITERALS],
     text: &mut [u8],
     at: usize,
 ) -> Filled
     requires { ⌜ Tables z (now destinations) (now marks) ⌝ }
     requires { ⌜ ExtensionsShort z (now destinations) (now marks) ⌝ }
     requires { ⌜ (from < extensions z) × (first ≡ extensionIndices z from) × (at + 80 ≤ length (now text)) ⌝ }
-    requires { ⌜ Kept (pathTexts z true (first .q .0) (first .u .0) (first .p .0)) 16 4096 (now heads) (now «head_sizes») ⌝ }
-    requires { ⌜ Kept (middleTexts z (first .p .0) (first .t .0)) 96 256 (now middles) (now «middle_sizes») ⌝ }
-    requires { ⌜ Kept (pathTexts z false (first .q .0) (first .u .0) (first .t .0)) 16 4096 (now lasts) (now «last_sizes») ⌝ }
+    requires { ⌜ FirstPaths z (first .q .0) (first .u .0) (first .p .0) (now shorter) × FirstPaths z (first .q .0) (first .u .0) (first .t .0) (now longer) ⌝ }
+    requires { ⌜ Texts z (now heads) (now «head_sizes») (now middles) (now «middle_sizes») (now lasts) (now «last_sizes») ⌝ }
     ensures { λ r. ⌜ Extensions z (now (destinations .entry)) (now (marks .entry)) from (now (text .entry)) at (now (text .exit)) (r .end) (r .position) ⌝ }
     ensures { λ r. ⌜ from < r .position ⌝ }
+    ensures { λ r. ⌜ Texts z (now (heads .exit)) (now («head_sizes» .exit)) (now (middles .exit)) (now («middle_sizes» .exit)) (now (lasts .exit)) (now («last_sizes» .exit)) ⌝ }
 {
     let mut x = first;
     let mut position = from;
@@ -110,15 +115,16 @@ fn lines_from(
         if text.len() - to < LINE {
             return Filled { end: to, position };
         }
-        let u = x.u;
-        if !kept(z, u, v) {
+        let head = number_at(shorter, v);
+        if head == 0 {
             let next = past_state(z, x, position);
             x = next.indices;
             position = next.position;
             continue;
         }
         let w = ReferenceState(entry(destinations, v, x.l));
-        if !kept(z, u, w) {
+        let last = number_at(longer, w);
+        if last == 0 {
             let next = past_letter(z, x, position);
             x = next.indices;
             position = next.position;
@@ -128,7 +134,8 @@ fn lines_from(
         to = extension_line(
             z,
             x,
-            w,
+            head,
+            last,
             f,
             heads,
             head_sizes,
@@ -144,60 +151,46 @@ fn lines_from(
     }
 }
 
-// The line of group 3's clause for x, the reference's step w from v by l, and its marks f.
+// The number for v, or 0.
+fn number_at(numbers: &[usize; Automaton::STATES], v: ReferenceState) -> usize
+    ensures { λ r. ⌜ NumberAt (now (numbers .entry)) (v .0) r ⌝ }
+{
+    let at = v.0;
+    if at >= Automaton::STATES {
+        return 0;
+    }
+    numbers[at]
+}
+
+// The line of group 3's clause for x and the marks f of the reference's step from v by l, where `head` and `last` are the numbers of the first
+// paths to v and to where it leads.
 fn extension_line(
     z: Sizes,
     x: Indices,
-    w: ReferenceState,
+    head: usize,
+    last: usize,
     f: usize,
-    heads: &mut [u8; PATH_BYTES],
-    head_sizes: &mut [u8; PATHS],
+    heads: &mut [u8; LITERAL_BYTES],
+    head_sizes: &mut [usize; LITERALS],
     middles: &mut [u8; MIDDLE_BYTES],
-    middle_sizes: &mut [u8; MIDDLES],
-    lasts: &mut [u8; PATH_BYTES],
-    last_sizes: &mut [u8; PATHS],
+    middle_sizes: &mut [usize; MIDDLES],
+    lasts: &mut [u8; LITERAL_BYTES],
+    last_sizes: &mut [usize; LITERALS],
     text: &mut [u8],
     at: usize,
 ) -> usize
-    requires { ⌜ Fitting z × Within z x × InFile z (pathAt x) × InFile z (lastPath x (w .0) f) ⌝ }
-    requires { ⌜ Kept (pathTexts z true (x .q .0) (x .u .0) (x .p .0)) 16 4096 (now heads) (now «head_sizes») ⌝ }
-    requires { ⌜ Kept (middleTexts z (x .p .0) (x .t .0)) 96 256 (now middles) (now «middle_sizes») ⌝ }
-    requires { ⌜ Kept (pathTexts z false (x .q .0) (x .u .0) (x .t .0)) 16 4096 (now lasts) (now «last_sizes») ⌝ }
-    requires { ⌜ (length (lineText (extensionOf z x (w .0) f)) ≤ 80) × (at + 80 ≤ length (now text)) ⌝ }
-    ensures { λ r. ⌜ Kept (pathTexts z true (x .q .0) (x .u .0) (x .p .0)) 16 4096 (now (heads .exit)) (now («head_sizes» .exit)) ⌝ }
-    ensures { λ r. ⌜ Kept (middleTexts z (x .p .0) (x .t .0)) 96 256 (now (middles .exit)) (now («middle_sizes» .exit)) ⌝ }
-    ensures { λ r. ⌜ Kept (pathTexts z false (x .q .0) (x .u .0) (x .t .0)) 16 4096 (now (lasts .exit)) (now («last_sizes» .exit)) ⌝ }
-    ensures { λ r. ⌜ Wrote (now (text .entry)) at (lineText (extensionOf z x (w .0) f)) (now (text .exit)) r ⌝ }
+    requires { ⌜ Fitting z × Within z x × InFile z (pathAt x) × Firsts z head last f ⌝ }
+    requires { ⌜ Texts z (now heads) (now «head_sizes») (now middles) (now «middle_sizes») (now lasts) (now «last_sizes») ⌝ }
+    requires { ⌜ (length (lineText (lineOf z x (headNumber z x head) (lastNumber z x last f))) ≤ 80) × (at + 80 ≤ length (now text)) ⌝ }
+    ensures { λ r. ⌜ Texts z (now (heads .exit)) (now («head_sizes» .exit)) (now (middles .exit)) (now («middle_sizes» .exit)) (now (lasts .exit)) (now («last_sizes» .exit)) ⌝ }
+    ensures { λ r. ⌜ Wrote (now (text .entry)) at (lineText (lineOf z x (headNumber z x head) (lastNumber z x last f))) (now (text .exit)) r ⌝ }
 {
-    let a = write_path(
-        z,
-        true,
-        x.q,
-        x.u,
-        x.p,
-        x.v,
-        x.i,
-        x.j,
-        heads,
-        head_sizes,
-        text,
-        at,
-    );
+    let other = z.reference.subsets;
+    let first = head + (x.i * other + x.j);
+    let a = write_literal(true, first, heads, head_sizes, text, at);
     let b = write_middle(z, x, middles, middle_sizes, text, a);
-    let c = write_path(
-        z,
-        false,
-        x.q,
-        x.u,
-        x.t,
-        w,
-        x.i | x.k,
-        x.j | f,
-        lasts,
-        last_sizes,
-        text,
-        b,
-    );
+    let second = last + ((x.i | x.k) * other + (x.j | f));
+    let c = write_literal(false, second, lasts, last_sizes, text, b);
     text[c] = b'0';
     text[c + 1] = b'\n';
     c + 2

@@ -1,125 +1,99 @@
-// Texts of literals, each kept in a slot once it was spelled, and copied from there. A slot whose size is 0 has no text yet.
+// Texts of literals, each kept in a slot once it was spelled, and copied from there. A slot's entry is the name of its text times 128, and the length of the
+// text; 0 where it has none. What another name's text leaves is spelled anew.
 use automaton::Automaton;
-use automaton::states::CandidateState;
-use automaton::states::ReferenceState;
 use clause_indices::Indices;
 use clause_indices::premise::premise;
 use clause_literals::negative;
 use clause_literals::positive;
 use clause_sizes::Sizes;
 use clause_step::CLAUSE;
-use clause_variables::path_variable;
 use clause_words::write_literals;
 use pieces::word;
 ghost use mathlib.Core.Path.{_≡_};
 ghost use mathlib.Core.List.{[], _∷_};
-ghost use Prim.Native.Nat.{_+_, _≤_};
+ghost use Prim.Native.Nat.{_+_, _%_, _≤_, _<_};
 ghost use lib.ListN.{length};
-ghost use Rattle.encoding.specs.Variables.{path};
 ghost use Rattle.decimal.specs.Wrote.{Wrote};
 ghost use Rattle.clause_sizes.specs.Sizes.{Fitting};
 ghost use Rattle.clause_sizes.specs.Numbers.{InFile};
 ghost use Rattle.clause_indices.specs.Indices.{Within, pathAt};
 ghost use Rattle.clause_words.specs.Text.{spacedText};
-ghost use Rattle.clause_text.specs.Kept.{NoneKept, Kept, Found};
-ghost use Rattle.clause_text.specs.Blocks.{signed, pathLiteral, middleOf, pathSlot, pathTexts, middleSlot, middleTexts};
+ghost use Rattle.clause_text.specs.Kept.{Kept, Found};
+ghost use Rattle.clause_text.specs.Blocks.{signed, literalTexts, middleOf, middleSlot, pairName, middleTexts};
 
-// The sets of marks that there are at most.
-const MARKINGS: usize = 1 << Automaton::SETS;
+// More than the length of any text.
+const NAME: usize = 128;
 
-// Paths from one pair of states to one candidate state, by a reference state and the sets I and J. A literal may want 12 bytes.
-pub const PATHS: usize = Automaton::STATES * MARKINGS * MARKINGS;
+// Slots for literals, by their numbers. A literal may want 12 bytes.
+pub const LITERALS: usize = 1024;
 
-const PATH_WIDTH: usize = 16;
+const LITERAL_WIDTH: usize = 16;
 
-pub const PATH_BYTES: usize = PATHS * PATH_WIDTH;
+pub const LITERAL_BYTES: usize = LITERALS * LITERAL_WIDTH;
 
-// Steps between two candidate states with their marks, by a letter and the set K.
-pub const MIDDLES: usize = Automaton::LETTERS * MARKINGS;
+// Slots for steps between two candidate states with their marks, by a letter and the set K. The two states are the name.
+pub const MIDDLES: usize = Automaton::LETTERS << Automaton::SETS;
 
 const MIDDLE_WIDTH: usize = CLAUSE * 12;
 
 pub const MIDDLE_BYTES: usize = MIDDLES * MIDDLE_WIDTH;
 
-pub fn forget(sizes: &mut [u8])
-    ensures { λ r. ⌜ NoneKept (now (sizes .exit)) ⌝ }
-{
-    let mut i: usize = 0;
-    while i < sizes.len() {
-        sizes[i] = 0;
-        i += 1;
-    }
-}
-
-// Writes path(q, u, p, v, I, J), or its negative, at the place `at`.
-pub fn write_path(
-    z: Sizes,
+// Writes a variable, or its negative, at the place `at`.
+pub fn write_literal(
     minus: bool,
-    q: CandidateState,
-    u: ReferenceState,
-    p: CandidateState,
-    v: ReferenceState,
-    i: usize,
-    j: usize,
-    kept: &mut [u8; PATH_BYTES],
-    sizes: &mut [u8; PATHS],
+    variable: usize,
+    kept: &mut [u8; LITERAL_BYTES],
+    sizes: &mut [usize; LITERALS],
     text: &mut [u8],
     at: usize,
 ) -> usize
-    requires { ⌜ Fitting z × InFile z (path (q .0) (u .0) (p .0) (v .0) i j) ⌝ }
-    requires { ⌜ Kept (pathTexts z minus (q .0) (u .0) (p .0)) 16 4096 (now kept) (now sizes) ⌝ }
-    requires { ⌜ at + length (spacedText (pathLiteral z minus (q .0) (u .0) (p .0) (v .0) i j ∷ [])) ≤ length (now text) ⌝ }
-    ensures { λ r. ⌜ Kept (pathTexts z minus (q .0) (u .0) (p .0)) 16 4096 (now (kept .exit)) (now (sizes .exit)) ⌝ }
-    ensures { λ r. ⌜ Wrote (now (text .entry)) at (spacedText (pathLiteral z minus (q .0) (u .0) (p .0) (v .0) i j ∷ [])) (now (text .exit)) r ⌝ }
+    requires { ⌜ (0 < variable) × (variable ≤ 9999999) ⌝ }
+    requires { ⌜ Kept (literalTexts minus) 16 1024 (now kept) (now sizes) ⌝ }
+    requires { ⌜ at + length (spacedText (signed minus variable ∷ [])) ≤ length (now text) ⌝ }
+    ensures { λ r. ⌜ Kept (literalTexts minus) 16 1024 (now (kept .exit)) (now (sizes .exit)) ⌝ }
+    ensures { λ r. ⌜ Wrote (now (text .entry)) at (spacedText (signed minus variable ∷ [])) (now (text .exit)) r ⌝ }
 {
-    let slot = (v.0 * z.candidate.subsets + i) * z.reference.subsets + j;
-    let size = path_in_slot(z, minus, q, u, p, v, i, j, slot, kept, sizes);
-    let first = slot * PATH_WIDTH;
+    let slot = variable % LITERALS;
+    let size = literal_in_slot(minus, variable, slot, kept, sizes);
+    let first = slot * LITERAL_WIDTH;
     let end = first + size;
     let all = &kept[..];
     word(&all[first..end], text, at)
 }
 
-// Spells it in its slot where it is not there yet, and returns its length.
-fn path_in_slot(
-    z: Sizes,
+// Spells it in its slot where it is not there, and returns its length.
+fn literal_in_slot(
     minus: bool,
-    q: CandidateState,
-    u: ReferenceState,
-    p: CandidateState,
-    v: ReferenceState,
-    i: usize,
-    j: usize,
+    variable: usize,
     slot: usize,
-    kept: &mut [u8; PATH_BYTES],
-    sizes: &mut [u8; PATHS],
+    kept: &mut [u8; LITERAL_BYTES],
+    sizes: &mut [usize; LITERALS],
 ) -> usize
-    requires { ⌜ Fitting z × InFile z (path (q .0) (u .0) (p .0) (v .0) i j) × (slot ≡ pathSlot z (v .0) i j) ⌝ }
-    requires { ⌜ Kept (pathTexts z minus (q .0) (u .0) (p .0)) 16 4096 (now kept) (now sizes) ⌝ }
-    ensures { λ r. ⌜ Found (pathTexts z minus (q .0) (u .0) (p .0)) 16 4096 (now (kept .exit)) (now (sizes .exit)) slot r ⌝ }
+    requires { ⌜ (0 < variable) × (variable ≤ 9999999) × (slot < 1024) ⌝ }
+    requires { ⌜ Kept (literalTexts minus) 16 1024 (now kept) (now sizes) ⌝ }
+    ensures { λ r. ⌜ Found (literalTexts minus) 16 1024 (now (kept .exit)) (now (sizes .exit)) slot variable r ⌝ }
 {
-    let size = sizes[slot];
-    if size != 0 {
-        return size as usize;
+    let entry = sizes[slot];
+    if entry / NAME == variable {
+        return entry % NAME;
     }
-    let variable = path_variable(z, q, u, p, v, i, j);
-    let size = keep_literal(minus, variable, kept, slot * PATH_WIDTH);
-    sizes[slot] = size;
-    size as usize
+    let size = keep_literal(minus, variable, kept, slot * LITERAL_WIDTH);
+    sizes[slot] = variable * NAME + size;
+    size
 }
 
 // Spells a literal in a slot, and returns the length of its text.
-fn keep_literal(minus: bool, variable: usize, kept: &mut [u8; PATH_BYTES], at: usize) -> u8
-    requires { ⌜ (variable ≤ 4199424) × (at + 16 ≤ 65536) ⌝ }
+fn keep_literal(minus: bool, variable: usize, kept: &mut [u8; LITERAL_BYTES], at: usize) -> usize
+    requires { ⌜ (variable ≤ 9999999) × (at + 16 ≤ 16384) ⌝ }
     ensures { λ r. ⌜ Wrote (now (kept .entry)) at (spacedText (signed minus variable ∷ [])) (now (kept .exit)) (at + r) × (r ≤ 16) ⌝ }
 {
     let literals = [literal(minus, variable)];
     let end = write_literals(&literals, kept, at);
-    (end - at) as u8
+    end - at
 }
 
 fn literal(minus: bool, variable: usize) -> i32
-    requires { ⌜ variable ≤ 4199424 ⌝ }
+    requires { ⌜ variable ≤ 9999999 ⌝ }
     ensures { λ r. ⌜ r ≡ signed minus variable ⌝ }
 {
     if minus {
@@ -133,14 +107,14 @@ pub fn write_middle(
     z: Sizes,
     x: Indices,
     kept: &mut [u8; MIDDLE_BYTES],
-    sizes: &mut [u8; MIDDLES],
+    sizes: &mut [usize; MIDDLES],
     text: &mut [u8],
     at: usize,
 ) -> usize
     requires { ⌜ Fitting z × Within z x × InFile z (pathAt x) ⌝ }
-    requires { ⌜ Kept (middleTexts z (x .p .0) (x .t .0)) 96 256 (now kept) (now sizes) ⌝ }
+    requires { ⌜ Kept (middleTexts z) 96 256 (now kept) (now sizes) ⌝ }
     requires { ⌜ at + length (spacedText (middleOf z (x .p .0) (x .t .0) (x .l) (x .k))) ≤ length (now text) ⌝ }
-    ensures { λ r. ⌜ Kept (middleTexts z (x .p .0) (x .t .0)) 96 256 (now (kept .exit)) (now (sizes .exit)) ⌝ }
+    ensures { λ r. ⌜ Kept (middleTexts z) 96 256 (now (kept .exit)) (now (sizes .exit)) ⌝ }
     ensures { λ r. ⌜ Wrote (now (text .entry)) at (spacedText (middleOf z (x .p .0) (x .t .0) (x .l) (x .k))) (now (text .exit)) r ⌝ }
 {
     let slot = x.l * z.candidate.subsets + x.k;
@@ -151,28 +125,29 @@ pub fn write_middle(
     word(&all[first..end], text, at)
 }
 
-// Spells them in their slot where they are not there yet, and returns the length of their text.
+// Spells them in their slot where they are not there, and returns the length of their text.
 fn middle_in_slot(
     z: Sizes,
     x: Indices,
     slot: usize,
     kept: &mut [u8; MIDDLE_BYTES],
-    sizes: &mut [u8; MIDDLES],
+    sizes: &mut [usize; MIDDLES],
 ) -> usize
     requires { ⌜ Fitting z × Within z x × InFile z (pathAt x) × (slot ≡ middleSlot z (x .l) (x .k)) ⌝ }
-    requires { ⌜ Kept (middleTexts z (x .p .0) (x .t .0)) 96 256 (now kept) (now sizes) ⌝ }
-    ensures { λ r. ⌜ Found (middleTexts z (x .p .0) (x .t .0)) 96 256 (now (kept .exit)) (now (sizes .exit)) slot r ⌝ }
+    requires { ⌜ Kept (middleTexts z) 96 256 (now kept) (now sizes) ⌝ }
+    ensures { λ r. ⌜ Found (middleTexts z) 96 256 (now (kept .exit)) (now (sizes .exit)) slot (pairName z (x .p .0) (x .t .0)) r ⌝ }
 {
-    let size = sizes[slot];
-    if size != 0 {
-        return size as usize;
+    let pair = 1 + (x.p.0 * z.candidate.states + x.t.0);
+    let entry = sizes[slot];
+    if entry / NAME == pair {
+        return entry % NAME;
     }
     let size = keep_middle(z, x, kept, slot * MIDDLE_WIDTH);
-    sizes[slot] = size;
-    size as usize
+    sizes[slot] = pair * NAME + size;
+    size
 }
 
-fn keep_middle(z: Sizes, x: Indices, kept: &mut [u8; MIDDLE_BYTES], at: usize) -> u8
+fn keep_middle(z: Sizes, x: Indices, kept: &mut [u8; MIDDLE_BYTES], at: usize) -> usize
     requires { ⌜ Fitting z × Within z x × InFile z (pathAt x) ⌝ }
     requires { ⌜ at + 96 ≤ 24576 ⌝ }
     ensures { λ r. ⌜ Wrote (now (kept .entry)) at (spacedText (middleOf z (x .p .0) (x .t .0) (x .l) (x .k))) (now (kept .exit)) (at + r) × (r ≤ 96) ⌝ }
@@ -180,5 +155,5 @@ fn keep_middle(z: Sizes, x: Indices, kept: &mut [u8; MIDDLE_BYTES], at: usize) -
     let mut clause = [0i32; CLAUSE];
     let count = premise(z, x, &mut clause);
     let end = write_literals(&clause[1..count], kept, at);
-    (end - at) as u8
+    end - at
 }

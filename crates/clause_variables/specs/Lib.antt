@@ -1,1 +1,4 @@
+pub mod FirstPaths
+pub mod FirstRows
 pub mod Kept
+pub mod PathLaws

@@ -7,8 +7,10 @@ use clause_sizes::Sizes;
 use clause_sizes::fitting;
 ghost use Rattle.encoding.specs.Variables.{step, mark, path};
 ghost use Rattle.clause_sizes.specs.Numbers.{NumberIfAny};
+ghost use Rattle.clause_variables.specs.FirstPaths.{FirstPaths};
 ghost use Rattle.clause_variables.specs.Kept.{KeptIfAny};
 
+mod firsts;
 mod numbers;
 mod rows;
 
@@ -66,6 +68,20 @@ pub fn path_variable(
         return 0;
     }
     numbers::path_number(z, q, u, p, v, i, j)
+}
+
+// Writes for each reference state v the number of path(q, u, p, v, 0, 0), or 0 where there is none.
+pub fn first_paths(
+    z: Sizes,
+    q: CandidateState,
+    u: ReferenceState,
+    p: CandidateState,
+    numbers: &mut [usize; Automaton::STATES],
+)
+    ensures { λ r. ⌜ FirstPaths z (q .0) (u .0) (p .0) (now (numbers .exit)) ⌝ }
+{
+    let row = firsts::first_row(z, q, u, p);
+    firsts::fill(row, numbers);
 }
 
 // Whether u has path variables to v.

@@ -1,41 +1,31 @@
 -- `passing::past` meets its contract.
-use Prim.Native.Nat.{_≤_}
 use native.Mathlib.Nat.{mod-le}
 use native.Mathlib.Omega.{arith}
 use borrow.Author.Needs.{needs}
-use borrow.Author.Tests.{not-true, not-false}
-use Rattle.clause_sizes.specs.Sizes.{Fitting}
-use Rattle.clause_sizes.specs.Conjunctions.{false-not}
-use Rattle.clause_order.proofs.Widths.{two-le, three-le, width-le, width-some, no-past, a-past, letters-in, letters-out}
+use Rattle.clause_order.proofs.Widths.{Small, sizes-in, sizes-out, two-le, three-le, width-le, fitting-in, width-some, no-past, a-past}
 use Rattle.clause_order.proofs.passing.past.Statement.{statement}
 use Rattle.clause_order.proofs.passing.past.Tie as tie
 
-fitting-requires : tie.Need-fitting-requires
-fitting-requires c κs = search needs
-
 returns : tie.Need-returns
-returns c = no-past (λ (f, s, l). false-not _ (not-true _ (c .if1 .taken)) (c .before .fitting .ensures .1 f))
+returns c = no-past (λ (f, s, l). sizes-out _ _ _ (c .if1 .taken) (fitting-in f l))
 
-returns-2 : tie.Need-returns-2
-returns-2 c = no-past (λ (f, s, l). letters-out _ _ (c .if2 .taken) (s, l))
-
-fits : (c : tie.Else2) → Fitting (c .before .before .before .before .args .z)
-fits c = c .before .before .before .fitting .ensures .0 (not-false _ (c .before .before .if1 .left))
-
-some : (c : tie.Else2) → (1 ≤ c .before .before .before .before .args .letters) × (c .before .before .before .before .args .letters ≤ c .before .before .before .before .args .z .letters)
-some c = letters-in _ _ (c .if2 .left)
+small : (c : tie.Else1) → Small (c .before .args .z .candidate .subsets) (c .before .args .z .reference .subsets) (c .before .args .letters)
+small c = sizes-in _ _ _ (c .if1 .left)
 
 mul-width : tie.Need-mul-width
-mul-width c = omega (arith, two-le (fits (c .before)))
+mul-width c = omega (arith, two-le (small c))
 
 mul-width-2 : tie.Need-mul-width-2
-mul-width-2 c = omega (arith, three-le (fits (c .before)))
+mul-width-2 c = omega (arith, three-le (small c))
 
 mul-width-3 : tie.Need-mul-width-3
-mul-width-3 c = let e = c .before in omega (arith, width-le (fits e) (some e .0) (some e .1))
+mul-width-3 c = omega (arith, width-le (small c))
+
+returns-2 : tie.Need-returns-2
+returns-2 c = no-past (λ (f, s, l). omega (arith, c .if2 .taken, width-some f s))
 
 rem-wrapping-add-usize : tie.Need-rem-wrapping-add-usize
-rem-wrapping-add-usize c = let e = c .before in omega (arith, width-some (fits e) (some e .0) (some e .1))
+rem-wrapping-add-usize c = search needs
 
 sub-wrapping-add-usize : tie.Need-sub-wrapping-add-usize
 sub-wrapping-add-usize c = mod-le _ _
@@ -44,9 +34,9 @@ wrapping-add-usize-requires : tie.Need-wrapping-add-usize-requires
 wrapping-add-usize-requires c κs = search needs
 
 returns-3 : tie.Need-returns-3
-returns-3 c = let e = c .before .before in a-past (fits e) (some e .0) (some e .1) (c .wrapping-add-usize .ensures)
+returns-3 c = a-past (c .wrapping-add-usize .ensures)
 
 pub past-spec : {M : Type 1} → statement M
 past-spec =
     tie.close
-    (tie.spec fitting-requires returns returns-2 mul-width mul-width-2 mul-width-3 rem-wrapping-add-usize sub-wrapping-add-usize wrapping-add-usize-requires returns-3)
+    (tie.spec returns mul-width mul-width-2 mul-width-3 returns-2 rem-wrapping-add-usize sub-wrapping-add-usize wrapping-add-usize-requires returns-3)

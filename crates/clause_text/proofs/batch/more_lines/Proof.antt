@@ -25,7 +25,7 @@ same-length : tie.Need-same-length
 same-length c = search needs
 
 returns : tie.Need-returns
-returns c = line-further _ _ _ (c .before .before .before .before .before .before .before .before .pre .1 .1) (c .before .before .next-line .ensures)
+returns c = let s = c .before .before .before .before .before .before .before .before in (s .pre .1 .1, line-further _ _ _ (s .pre .1 .0 .1) (c .before .before .next-line .ensures))
 
 sub-block-lines : tie.Need-sub-block-lines
 sub-block-lines c =
@@ -38,12 +38,12 @@ block-lines-requires c κs =
     let s = c .before .before .before .before .before .before .before .before .before .before .before in
     let g = s .args .g in
     let (room, from, to) = in-group (length (s .args .text .now) - s .args .at) (s .args .from) (g .first + g .second) (g .third) (c .before .before .before .before .before .before .before .if1 .left) in
-    (s .pre .0 .0, (extensions-short (s .args .z) (s .args .start .0) _ _ (s .pre .0 .0) (s .pre .1 .0) (s .pre .0 .1), (omega (arith, from, to, s .pre .1 .0 .third-is), omega (arith, s .pre .1 .1, room))))
+    (s .pre .0 .0, (extensions-short (s .args .z) (s .args .start .0) _ _ (s .pre .0 .0) (s .pre .1 .0 .0) (s .pre .0 .1), ((omega (arith, from, to, s .pre .1 .0 .0 .third-is), omega (arith, s .pre .1 .0 .1, room)), s .pre .1 .1)))
 
 add-t18 : tie.Need-add-t18
 add-t18 c =
-    let (lines, some) = c .before .before .before .block-lines .ensures in
-    let k = c .before .before .before .before .before .before .before .before .before .before .before .before .before .before .before .pre .1 .0 in
+    let (lines, (some, texts)) = c .before .before .before .block-lines .ensures in
+    let k = c .before .before .before .before .before .before .before .before .before .before .before .before .before .before .before .pre .1 .0 .0 in
     omega (arith, lines .next, lines .within, k .third-is, k .all-is, k .all-le)
 
 same-length-2 : tie.Need-same-length-2
@@ -54,8 +54,8 @@ returns-2 c =
     let s = c .before .before .before .before .before .before .before .before .before .before .before .before .before .before .before in
     let g = s .args .g in
     let (room, from, to) = in-group (length (s .args .text .now) - s .args .at) (s .args .from) (g .first + g .second) (g .third) (c .before .before .before .before .before .before .before .before .before .before .before .if1 .left) in
-    let (lines, some) = c .before .before .before .block-lines .ensures in
-    extensions-further (s .args .z) (s .args .start .0) _ _ (s .pre .0 .0) (s .pre .1 .0) lines (s .args .from) _ (omega (arith, from)) refl some
+    let (lines, (some, texts)) = c .before .before .before .block-lines .ensures in
+    (texts, extensions-further (s .args .z) (s .args .start .0) _ _ (s .pre .0 .0) (s .pre .1 .0 .0) lines (s .args .from) _ (omega (arith, from)) refl some)
 
 pub more-lines-spec : {M : Type 1} → statement M
 more-lines-spec =

@@ -33,11 +33,8 @@ write-literals-requires c κs = tt
 sub-result : tie.Need-sub-result
 sub-result c = kept c .0
 
-cast-result : tie.Need-cast-result
-cast-result c = omega (arith, kept c .1)
-
 returns : tie.Need-returns
 returns c = (kept c .2, omega (arith, kept c .1))
 
 pub keep-literal-spec : {M : Type 1} → statement M
-keep-literal-spec = tie.close (tie.spec literal-requires slice-aggregate-write-literals write-literals-requires sub-result cast-result returns)
+keep-literal-spec = tie.close (tie.spec literal-requires slice-aggregate-write-literals write-literals-requires sub-result returns)

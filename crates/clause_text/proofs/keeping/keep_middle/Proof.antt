@@ -53,13 +53,10 @@ write-literals-requires c κs = tt
 sub-result : tie.Need-sub-result
 sub-result c = kept c .0
 
-cast-result : tie.Need-cast-result
-cast-result c = omega (arith, kept c .1)
-
 returns : tie.Need-returns
 returns c = (kept c .2, kept c .1)
 
 pub keep-middle-spec : {M : Type 1} → statement M
 keep-middle-spec =
     tie.close
-    (tie.spec slice-aggregate-premise premise-requires sub-write-literals part-write-literals-start part-write-literals-end write-literals-requires sub-result cast-result returns)
+    (tie.spec slice-aggregate-premise premise-requires sub-write-literals part-write-literals-start part-write-literals-end write-literals-requires sub-result returns)
