@@ -31,7 +31,7 @@ ended-tag Ended e = refl
 ended-tag (Refused f) e = let z : _≡_ {A = ℕ} 2 1 = e in absurd (omega arith)
 
 module _ (a : Automaton) (τ : Target) (x : ℕ) (d e : List ℕ) (h : Handed) (s : BatchStepped a τ x d e h) (v : Valid a) (z : Proper τ) (i : x ≤ last-position)
-    (size : 65536 ≡ length d) where
+    (size : 262144 ≡ length d) where
   abbrev the-call : TextCall
   the-call = record { from = x; before = d; after = e; result = h }
 

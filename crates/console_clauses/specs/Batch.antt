@@ -25,7 +25,7 @@ module _ (a : Automaton) (τ : Target) where
     pub length-is : r .length ≡ length (bytes (call .result .answer) (call .after))
     pub accepted : turned-down (call .result .answer) ≡ false
     pub says : r .ended ≡ ended (call .result .answer)
-    pub most : r .length ≤ 65536
+    pub most : r .length ≤ 262144
     pub stays : r .position ≤ last-position
     pub fewer : r .more ≡ true → left a τ (r .position) < left a τ x
     pub unended : r .more ≡ true → r .ended ≡ false

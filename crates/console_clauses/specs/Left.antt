@@ -53,6 +53,6 @@ left-le {a} {τ} v d x =
     let num = numbers a τ in
     omega (arith, each-le (positions T num - x) (λ i. at-position T num (x + i)) (λ i. at-most-one T num (x + i)), positions-le v d)
 
--- at 65,536 bytes for each, they have less than 2 ^ 64, those of a header before them included
-pub start-le : {a : Automaton} {τ : Target} {k : ℕ} → Valid a → Proper τ → k ≤ 80 → (x : ℕ) → k + 65536 * left a τ x ≤ 80 + 65536 * 8657059969
+-- at 262,144 bytes for each, they have less than 2 ^ 64, those of a header before them included
+pub start-le : {a : Automaton} {τ : Target} {k : ℕ} → Valid a → Proper τ → k ≤ 80 → (x : ℕ) → k + 262144 * left a τ x ≤ 80 + 262144 * 8657059969
 start-le v d h x = omega (arith, h, left-le v d x)

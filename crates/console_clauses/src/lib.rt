@@ -66,7 +66,7 @@ fn print_header(variables: u64, clauses: u64) -> Printed
     print_line(&line, length)
 }
 
-// No batch follows a header that the output did not take. Each batch leaves fewer clauses, and has at most 65,536 bytes.
+// No batch follows a header that the output did not take. Each batch leaves fewer clauses, and has at most 262,144 bytes.
 fn print_clauses(reference: Automaton, target: Target, header: Printed) -> Printout
     requires { ⌜ Valid reference ⌝ }
     requires { ⌜ Proper target ⌝ }
@@ -112,7 +112,7 @@ fn print_batch(reference: Automaton, target: Target, position: u64) -> Next
     requires { ⌜ position ≤ 8657059969 ⌝ }
     ensures { λ r. ⌜ HandsBatch reference target position r ⌝ }
 {
-    let mut text = io::large_buffer();
+    let mut text = empty_batch();
     let handed = lines(reference, target, position, &mut text);
     let answer = handed.answer;
     let position = handed.position;
@@ -142,4 +142,13 @@ fn print_batch(reference: Automaton, target: Target, position: u64) -> Next
             }
         }
     }
+}
+
+// The bytes of a batch. The more lines, the more often a text that is kept serves again.
+const BATCH: usize = 262144;
+
+fn empty_batch() -> [u8; BATCH]
+    ensures { λ r. ⌜ 262144 ≡ count r ⌝ }
+{
+    [0u8; BATCH]
 }

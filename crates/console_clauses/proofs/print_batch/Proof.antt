@@ -4,8 +4,8 @@ use borrow.Author.Needs.{needs}
 use Rattle.console_clauses.proofs.print_batch.Statement.{statement}
 use Rattle.console_clauses.proofs.print_batch.Tie as tie
 
-large-buffer-requires : tie.Need-large-buffer-requires
-large-buffer-requires c κs = search needs
+empty-batch-requires : tie.Need-empty-batch-requires
+empty-batch-requires c κs = search needs
 
 slice-aggregate-lines : tie.Need-slice-aggregate-lines
 slice-aggregate-lines c = search needs
@@ -43,7 +43,7 @@ returns c =
     let b = c .before .before .before .before .before .before .before .before in
     let a = b .before .args in
     let p = b .before .pre in
-    written (a .reference) (a .target) (a .position) (b .large-buffer .result) (l .last .1 .1 .1 .0) (l .result) (l .ensures) (p .0) (p .1 .0) (p .1 .1) (b .large-buffer .ensures)
+    written (a .reference) (a .target) (a .position) (b .empty-batch .result) (l .last .1 .1 .1 .0) (l .result) (l .ensures) (p .0) (p .1 .0) (p .1 .1) (b .empty-batch .ensures)
     _ _ (c .before .before .before .answer .given .1) (c .print .ensures)
 
 returns-2 : tie.Need-returns-2
@@ -52,7 +52,7 @@ returns-2 c =
     let b = c .before .before .before .before .before in
     let a = b .before .args in
     let p = b .before .pre in
-    ended-now (a .reference) (a .target) (a .position) (b .large-buffer .result) (l .last .1 .1 .1 .0) (l .result) (l .ensures) (p .0) (p .1 .0) (p .1 .1) (b .large-buffer .ensures)
+    ended-now (a .reference) (a .target) (a .position) (b .empty-batch .result) (l .last .1 .1 .1 .0) (l .result) (l .ensures) (p .0) (p .1 .0) (p .1 .1) (b .empty-batch .ensures)
     (c .before .match .keys2)
 
 returns-3 : tie.Need-returns-3
@@ -61,14 +61,14 @@ returns-3 c =
     let b = c .before .before .before .before .before .before .before .before .before in
     let a = b .before .args in
     let p = b .before .pre in
-    never-refused (a .reference) (a .target) (a .position) (b .large-buffer .result) (l .last .1 .1 .1 .0) (l .result) (l .ensures) (p .0) (p .1 .0) (p .1 .1) (b .large-buffer .ensures)
+    never-refused (a .reference) (a .target) (a .position) (b .empty-batch .result) (l .last .1 .1 .1 .0) (l .result) (l .ensures) (p .0) (p .1 .0) (p .1 .1) (b .empty-batch .ensures)
     (c .before .before .before .before .answer2 .given .1)
 
 pub print-batch-spec : {M : Type 1} → statement M
 print-batch-spec =
     tie.close
     (tie.spec
-    large-buffer-requires
+    empty-batch-requires
     slice-aggregate-lines
     lines-requires
     enum-known-answer

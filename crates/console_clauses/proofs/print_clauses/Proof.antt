@@ -10,7 +10,7 @@ use Rattle.console_clauses.proofs.print_clauses.Tie as tie
 
 abbrev Inv-loop : tie.InvT-loop
 Inv-loop reference τ bytes₀ position₀ bytes position =
-    Begun reference τ bytes₀ position bytes × (bytes + 65536 * left reference τ position ≤ 80 + 65536 * 8657059969) × (position ≤ 8657059969)
+    Begun reference τ bytes₀ position bytes × (bytes + 262144 * left reference τ position ≤ 80 + 262144 * 8657059969) × (position ≤ 8657059969)
 
 abbrev μ-loop : tie.MeasureT-loop
 μ-loop reference τ bytes₀ position₀ bytes position = left reference τ position
