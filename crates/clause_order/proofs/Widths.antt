@@ -1,14 +1,14 @@
 -- Past a stretch of positions: the number of the first position after it, and its indices.
 use mathlib.Core.Path.{_≡_, refl, sym, ap, _∙_, subst}
-use mathlib.Core.Bool.{true, false, _||_, true≢false}
+use mathlib.Core.Bool.{Bool, true, false, _&&_, _||_, true≢false}
 use Prim.Native.Nat.{ℕ, _+_, _-_, _*_, _/_, _%_, _^_, _≤_, _<_}
-use native.Mathlib.Nat.{mod-eq-of-lt, div-add-mod', div-div-eq-div-mul, mul-le-mul, mul-one, le-refl}
+use native.Mathlib.Nat.{mod-eq-of-lt, div-add-mod', div-div-eq-div-mul, mul-le-mul, mul-mod-left, mul-one, le-refl}
 use native.Mathlib.Omega.{arith}
-use borrow.Author.Tests.{ltb-false, le-ltb}
-use lib.Dec.{ltb}
+use borrow.Author.Tests.{eqb-true, ltb-false, le-ltb}
+use lib.Dec.{eqb, ltb}
 use lib.Arith.{digits-lt, digits-div}
 use lib.Pow.{pow-pos}
-use Rattle.meaning.specs.TestLaws.{or-false}
+use Rattle.meaning.specs.TestLaws.{and-left, and-right, or-false}
 use Rattle.encoding.specs.Numbering.{split}
 use Rattle.clause_sizes.specs.declared.Sizes.{Sizes}
 use Rattle.clause_sizes.specs.Sizes.{Fitting}
@@ -63,14 +63,28 @@ module _ {z : Sizes} (f : Fitting z) where
 multiple : (k w : ℕ) → k - k % w + w ≡ (k / w + 1) * w
 multiple k w = let e : k / w * w + k % w ≡ k = div-add-mod' k w in omega arith
 
-pub no-past : {z : Sizes} {letters k : ℕ} → ¬ (Fitting z × (1 ≤ letters) × (letters ≤ z .letters)) → PastOf z letters k k
-no-past n = record { is = λ f s l h. absurd (n (f, s, l)) }
+-- where nothing remains
+from-multiple : (k w : ℕ) → k % w ≡ 0 → k + w ≡ (k / w + 1) * w
+from-multiple k w none = let e : k / w * w + k % w ≡ k = div-add-mod' k w in omega arith
 
-pub a-past : {z : Sizes} {letters k j : ℕ}
+pub no-past : {z : Sizes} {letters k : ℕ} {first : Bool} → ¬ (Fitting z × (1 ≤ letters) × (letters ≤ z .letters)) → PastOf z letters first k k
+no-past n = record { is = λ f s l h _. absurd (n (f, s, l)) }
+
+pub first-past : {z : Sizes} {letters k j : ℕ} {first : Bool}
     → let w = z .candidate .subsets * z .reference .subsets * z .candidate .subsets * letters in
-    j ≡ (k - k % w + w) % 2 ^ 64 → PastOf z letters k j
+    first ≡ true → j ≡ (k + w) % 2 ^ 64 → PastOf z letters first k j
+first-past {z} {letters} {k} t e = record {
+  is = λ f _ le h at-first.
+      let w = z .candidate .subsets * z .reference .subsets * z .candidate .subsets * letters in
+      let none : k % w ≡ 0 = ap (λ w. k % w) (width-is f letters) ∙ at-first t in
+      e ∙ mod-eq-of-lt (omega (arith, extensions-le f, width-le (fitting-in f le))) ∙ from-multiple k w none ∙ ap (λ w. (k / w + 1) * w) (width-is f letters);
+}
+
+pub a-past : {z : Sizes} {letters k j : ℕ} {first : Bool}
+    → let w = z .candidate .subsets * z .reference .subsets * z .candidate .subsets * letters in
+    j ≡ (k - k % w + w) % 2 ^ 64 → PastOf z letters first k j
 a-past {z} {letters} {k} e = record {
-  is = λ f _ le h.
+  is = λ f _ le h _.
       let w = z .candidate .subsets * z .reference .subsets * z .candidate .subsets * letters in
       e ∙ mod-eq-of-lt (omega (arith, extensions-le f, width-le (fitting-in f le))) ∙ multiple k w ∙ ap (λ w. (k / w + 1) * w) (width-is f letters);
 }
@@ -123,10 +137,45 @@ module _ (z : Sizes) where
       (omega (arith, e, parts-are), λ v. let t = g v in at-part a y e (t .0) (t .1))
 
 module _ (z : Sizes) (x : Indices) (k : ℕ) where
-  letter-at : {j : ℕ} → Fitting z → PastOf z 1 k j → k < extensions z → j ≡ (k / transitionWidth z + 1) * transitionWidth z
-  letter-at f p h = p .is f (omega arith) (f .letters-some) h ∙ ap (λ w. (k / w + 1) * w) (mul-one (transitionWidth z))
+  -- the tests that x has the first sets, and the first letter too
+  abbrev pub first-sets : Bool
+  first-sets = (eqb (x .i) 0 && eqb (x .j) 0) && eqb (x .k) 0
 
-  pub letter-passed : {l j : ℕ} → l ≡ (x .l + 1) % 2 ^ 64 → l < z .letters → PastOf z 1 k j → Passes z (transitionWidth z) x k (record { indices = moved z x (x .v .0) l 0 0 0; position = j })
+  abbrev pub first-letter : Bool
+  first-letter = ((eqb (x .l) 0 && eqb (x .i) 0) && eqb (x .j) 0) && eqb (x .k) 0
+
+  module _ (s : Sets z k) (e : x ≡ with-sets z (s .a) (s .I) (s .J) (s .K)) where
+    part-starts : x .i ≡ 0 → x .j ≡ 0 → x .k ≡ 0 → k ≡ s .a * transitionWidth z
+    part-starts hi hj hk =
+        let I-is : s .I ≡ 0 = sym (ap (λ y. y .i) e) ∙ hi in
+        let J-is : s .J ≡ 0 = sym (ap (λ y. y .j) e) ∙ hj in
+        let K-is : s .K ≡ 0 = sym (ap (λ y. y .k) e) ∙ hk in
+        s .place ∙ (λ i. at-sets z (s .a) (I-is i) (J-is i) (K-is i)) ∙ first-of z (s .a)
+
+    letter-starts : first-sets ≡ true → k % (transitionWidth z * 1) ≡ 0
+    letter-starts t =
+        let ij = and-left (eqb (x .i) 0 && eqb (x .j) 0) (eqb (x .k) 0) t in
+        let is = part-starts (eqb-true _ _ (and-left (eqb (x .i) 0) (eqb (x .j) 0) ij)) (eqb-true _ _ (and-right (eqb (x .i) 0) (eqb (x .j) 0) ij))
+        (eqb-true _ _ (and-right (eqb (x .i) 0 && eqb (x .j) 0) (eqb (x .k) 0) t)) in
+        ap (λ w. k % w) (mul-one (transitionWidth z)) ∙ ap (λ y. y % transitionWidth z) is ∙ mul-mod-left (s .a) (transitionWidth z)
+
+    state-starts : first-letter ≡ true → k % (transitionWidth z * z .letters) ≡ 0
+    state-starts t =
+        let L = z .letters in
+        let lij = and-left ((eqb (x .l) 0 && eqb (x .i) 0) && eqb (x .j) 0) (eqb (x .k) 0) t in
+        let li = and-left (eqb (x .l) 0 && eqb (x .i) 0) (eqb (x .j) 0) lij in
+        let is = part-starts (eqb-true _ _ (and-right (eqb (x .l) 0) (eqb (x .i) 0) li)) (eqb-true _ _ (and-right (eqb (x .l) 0 && eqb (x .i) 0) (eqb (x .j) 0) lij))
+        (eqb-true _ _ (and-right ((eqb (x .l) 0 && eqb (x .i) 0) && eqb (x .j) 0) (eqb (x .k) 0) t)) in
+        let l-is : s .a % L ≡ 0 = sym (ap (λ y. y .l) e) ∙ eqb-true _ _ (and-left (eqb (x .l) 0) (eqb (x .i) 0) li) in
+        let whole : s .a / L * L + s .a % L ≡ s .a = div-add-mod' (s .a) L in
+        let a-is : s .a ≡ s .a / L * L = omega (arith, whole, l-is) in
+        let regroup : (b : ℕ) → b * L * transitionWidth z ≡ b * (transitionWidth z * L) = λ b. omega arith in
+        ap (λ y. y % (transitionWidth z * L)) (is ∙ ap (λ a. a * transitionWidth z) a-is ∙ regroup (s .a / L)) ∙ mul-mod-left (s .a / L) (transitionWidth z * L)
+
+  letter-at : {j : ℕ} → Fitting z → (s : Sets z k) → x ≡ with-sets z (s .a) (s .I) (s .J) (s .K) → PastOf z 1 first-sets k j → k < extensions z → j ≡ (k / transitionWidth z + 1) * transitionWidth z
+  letter-at f s e p h = p .is f (omega arith) (f .letters-some) h (letter-starts s e) ∙ ap (λ w. (k / w + 1) * w) (mul-one (transitionWidth z))
+
+  pub letter-passed : {l j : ℕ} → l ≡ (x .l + 1) % 2 ^ 64 → l < z .letters → PastOf z 1 first-sets k j → Passes z (transitionWidth z) x k (record { indices = moved z x (x .v .0) l 0 0 0; position = j })
   letter-passed {l} {j} l-is hl p = record {
     same-q = refl;
     same-p = refl;
@@ -134,14 +183,15 @@ module _ (z : Sizes) (x : Indices) (k : ℕ) where
     same-u = refl;
     next = λ f h e.
         let s = sets-of z k h in
-        let q = letter-at f p h in
+        let here = e ∙ s .indices in
+        let q = letter-at f s here p h in
         let is = q ∙ ap (λ a. (a + 1) * transitionWidth z) (transition-is f s) in
-        let t = letter-next z x f s (e ∙ s .indices) l-is hl in
+        let t = letter-next z x f s here l-is hl in
         let (le, in-block) = to-part z (s .a + 1) (moved z x (x .v .0) l 0 0 0) is (omega (arith, s .a-lt)) (λ v. t) in
         (q, le, in-block);
   }
 
-  pub letter-wrapped : {l v j : ℕ} → l ≡ (x .l + 1) % 2 ^ 64 → z .letters ≤ l → v ≡ (x .v .0 + 1) % 2 ^ 64 → PastOf z 1 k j
+  pub letter-wrapped : {l v j : ℕ} → l ≡ (x .l + 1) % 2 ^ 64 → z .letters ≤ l → v ≡ (x .v .0 + 1) % 2 ^ 64 → PastOf z 1 first-sets k j
       → Passes z (transitionWidth z) x k (record { indices = moved z x v 0 0 0 0; position = j })
   letter-wrapped {l} {v} {j} l-is hl v-is p = record {
     same-q = refl;
@@ -150,15 +200,15 @@ module _ (z : Sizes) (x : Indices) (k : ℕ) where
     same-u = refl;
     next = λ f h e.
         let s = sets-of z k h in
-        let q = letter-at f p h in
         let here = e ∙ s .indices in
+        let q = letter-at f s here p h in
         let last = last-letter z x f s here l-is hl in
         let is = q ∙ ap (λ a. (a + 1) * transitionWidth z) (transition-is f s) ∙ ap (λ a. a * transitionWidth z) last in
         let (le, in-block) = to-part z ((s .a / z .letters + 1) * z .letters) (moved z x v 0 0 0 0) is (omega (arith, s .a-lt, last)) (λ g. state-next z x f s here v-is g) in
         (q, le, in-block);
   }
 
-  pub state-passed : {v j : ℕ} → v ≡ (x .v .0 + 1) % 2 ^ 64 → PastOf z (z .letters) k j → Passes z (stateWidth z) x k (record { indices = moved z x v 0 0 0 0; position = j })
+  pub state-passed : {v j : ℕ} → v ≡ (x .v .0 + 1) % 2 ^ 64 → PastOf z (z .letters) first-letter k j → Passes z (stateWidth z) x k (record { indices = moved z x v 0 0 0 0; position = j })
   state-passed {v} {j} v-is p = record {
     same-q = refl;
     same-p = refl;
@@ -167,11 +217,12 @@ module _ (z : Sizes) (x : Indices) (k : ℕ) where
     next = λ f h e.
         let s = sets-of z k h in
         let L = z .letters in
-        let q = p .is f (f .letters-some) (le-refl L) h in
+        let here = e ∙ s .indices in
+        let q = p .is f (f .letters-some) (le-refl L) h (state-starts s here) in
         let regroup : (b : ℕ) → (b + 1) * (transitionWidth z * L) ≡ (b + 1) * L * transitionWidth z = λ b. omega arith in
         let is = q ∙ ap (λ b. (b + 1) * stateWidth z) (state-is f s) ∙ regroup (s .a / L) in
         let less = state-lt f s in
-        let (le, in-block) = to-part z ((s .a / L + 1) * L) (moved z x v 0 0 0 0) is less (λ g. state-next z x f s (e ∙ s .indices) v-is g) in
+        let (le, in-block) = to-part z ((s .a / L + 1) * L) (moved z x v 0 0 0 0) is less (λ g. state-next z x f s here v-is g) in
         (q, le, in-block);
   }
     where

@@ -25,7 +25,8 @@ pub fn past_letter(z: Sizes, x: Indices, position: usize) -> Place
     y.j = 0;
     y.i = 0;
     let l = wrapping_add_usize(x.l, 1);
-    let after = past(z, 1, position);
+    let first = (x.i == 0) & (x.j == 0) & (x.k == 0);
+    let after = past(z, 1, first, position);
     if l < z.letters {
         y.l = l;
         return Place {
@@ -53,15 +54,16 @@ pub fn past_state(z: Sizes, x: Indices, position: usize) -> Place
     y.l = 0;
     let v = ReferenceState(wrapping_add_usize(x.v.0, 1));
     y.v = v;
+    let first = (x.l == 0) & (x.i == 0) & (x.j == 0) & (x.k == 0);
     Place {
         indices: y,
-        position: past(z, z.letters, position),
+        position: past(z, z.letters, first, position),
     }
 }
 
-// The first multiple past the position of as many positions as so many letters have; the position where that many have none, or a size is past its limit.
-fn past(z: Sizes, letters: usize, position: usize) -> usize
-    ensures { λ r. ⌜ PastOf z letters position r ⌝ }
+// The first multiple past the position of as many positions as so many letters have; the position where that many have none, or a size is past its limit. `first`: the position is such a multiple itself.
+fn past(z: Sizes, letters: usize, first: bool, position: usize) -> usize
+    ensures { λ r. ⌜ PastOf z letters first position r ⌝ }
 {
     let own = z.candidate.subsets;
     let other = z.reference.subsets;
@@ -71,6 +73,9 @@ fn past(z: Sizes, letters: usize, position: usize) -> usize
     let width = own * other * own * letters;
     if width == 0 {
         return position;
+    }
+    if first {
+        return wrapping_add_usize(position, width);
     }
     wrapping_add_usize(position - position % width, width)
 }

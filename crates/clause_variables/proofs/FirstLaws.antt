@@ -1,21 +1,26 @@
 -- The first paths of a row: bounds on the way to their numbers, what the numbers are, and how they are counted.
-use mathlib.Core.Path.{_≡_, sym, ap, _∙_, subst}
+use mathlib.Core.Path.{_≡_, refl, sym, ap, _∙_, subst}
 use mathlib.Core.Bool.{Bool, true, false, cond, _&&_}
 use mathlib.Core.Logic.{_↔_}
 use mathlib.Core.List.{List}
-use Prim.Native.Nat.{ℕ, suc, _+_, _*_, _≤_, _<_}
-use native.Mathlib.Nat.{mul-le-mul, le-refl, add-mul}
+use Prim.Native.Nat.{ℕ, suc, _+_, _-_, _*_, _%_, _^_, _≤_, _<_}
+use native.Mathlib.Nat.{mul-le-mul, le-refl, add-mul, mod-lt}
+use native.Mathlib.Decide.{decLt}
 use native.Mathlib.Numerals.{add-one}
 use native.Mathlib.Omega.{arith}
 use borrow.Author.Tests.{lt-ltb, le-ltb, ltb-true}
+use lib.Bits.{and-mask}
 use lib.Dec.{ltb}
 use lib.Pow.{pow-pos}
 use lib.ListN.{length, getD, set}
 use Rattle.meaning.specs.BitSet.{bit, has}
+use Rattle.meaning.specs.BitSetLaws.{has-zero, has-and, has-below}
 use Rattle.meaning.specs.Counting.{total, how-many}
 use Rattle.meaning.specs.CountingLaws.{Filled, filled-none, filled-more, each-at}
 use Rattle.meaning.specs.TestLaws.{and-true, and-left, and-right, on-cond}
 use Rattle.meaning.specs.Totals.{how-many-same}
+use Rattle.bits.specs.Members.{shift-is}
+use Rattle.bits.specs.SetLaws.{has-past}
 use Rattle.automaton.specs.Value.{table}
 use Rattle.encoding.specs.Variables.{path}
 use Rattle.clause_sizes.specs.declared.Sizes.{Sizes}
@@ -25,7 +30,7 @@ use Rattle.clause_sizes.specs.Numbers.{keptIn, before, inRow, rankIn, InFile, N
 use Rattle.clause_sizes.specs.Conjunctions.{false-not, both, less}
 use Rattle.clause_variables.specs.declared.firsts.FirstRow.{FirstRow}
 use Rattle.clause_variables.specs.FirstPaths.{FirstPaths}
-use Rattle.clause_variables.specs.FirstRows.{inside, firstAt, noRow, FirstRowOf}
+use Rattle.clause_variables.specs.FirstRows.{Cut, firstAt, noRow, FirstRowOf}
 use Rattle.clause_variables.proofs.Laws.{path-lt, path-is}
 use Rattle.clause_variables.proofs.Tested.{no-variable, a-variable}
 
@@ -34,7 +39,7 @@ use Rattle.clause_variables.proofs.Tested.{no-variable, a-variable}
 -- numbers for the states below v, and the number that comes next
 pub record Counted (r : FirstRow) (numbers : List ℕ) (next v : ℕ) : Type 0 where
   pub filled : Filled (firstAt r) 16 numbers v
-  pub next-is : next ≡ r .first + how-many v (inside r) * r .width
+  pub next-is : next ≡ r .first + how-many v (has (r .set)) * r .width
   pub next-le : next ≤ r .first + v * 256
 
 pub counted-none : (r : FirstRow) (numbers : List ℕ) → length numbers ≡ 16 → Counted r numbers (r .first) 0
@@ -50,16 +55,38 @@ at-most-all true w e = omega arith
 at-most-all false w e = omega arith
 
 pub counted-more : (r : FirstRow) (numbers : List ℕ) (next v : ℕ) {b : Bool} {x y : ℕ} → Counted r numbers next v → v < 16 → r .width ≤ 256
-    → b ≡ inside r v → x ≡ cond b next 0 → y ≡ cond b (r .width) 0 → Counted r (set numbers v x) (next + y) (v + 1)
+    → b ≡ has (r .set) v → x ≡ cond b next 0 → y ≡ cond b (r .width) 0 → Counted r (set numbers v x) (next + y) (v + 1)
 unfolding total
 counted-more r numbers next v {b} {x} {y} C h w e ex ey =
-    let k = how-many v (inside r) in
-    let step : y ≡ bit (inside r v) * r .width = ey ∙ bit-times b (r .width) ∙ ap (λ t. bit t * r .width) e in
+    let k = how-many v (has (r .set)) in
+    let step : y ≡ bit (has (r .set) v) * r .width = ey ∙ bit-times b (r .width) ∙ ap (λ t. bit t * r .width) e in
     record {
       filled = filled-more _ 16 numbers v x (C .filled) h (ex ∙ ap (λ n. cond b n 0) (C .next-is) ∙ ap (λ t. cond t (r .first + k * r .width) 0) e);
-      next-is = rw (add-one v) (omega (arith, C .next-is, step, add-mul k (bit (inside r v)) (r .width)));
+      next-is = rw (add-one v) (omega (arith, C .next-is, step, add-mul k (bit (has (r .set) v)) (r .width)));
       next-le = omega (arith, C .next-le, at-most-all b (r .width) ey);
     }
+
+-- ---- the members below a number
+
+and-all : (b : Bool) → (b && true) ≡ b
+and-all true = refl
+and-all false = refl
+
+low-members : (s k v : ℕ) → has (s % 2 ^ k) v ≡ (ltb v k && has s v)
+low-members s k v = go (decLt v k)
+  where
+    go : Dec (v < k) → has (s % 2 ^ k) v ≡ (ltb v k && has s v)
+    go (yes h) = ap (λ n. has n v) (sym (and-mask s k)) ∙ has-and s (2 ^ k - 1) v ∙ ap (λ b. has s v && b) (has-below k v h) ∙ and-all (has s v) ∙ sym (ap (λ b. b && has s v) (lt-ltb v k h))
+    go (no n) = has-past k (s % 2 ^ k) v (mod-lt s (pow-pos k)) (omega arith) ∙ sym (ap (λ b. b && has s v) (le-ltb v k (omega arith)))
+
+pub cut-low : (s k : ℕ) → k < 16 → Cut s k (s % (1 * 2 ^ k % 65536))
+cut-low s k h = subst (λ m. Cut s k (s % m)) (sym (shift-is k h)) (record { members = λ v l. low-members s k v })
+
+pub cut-none : (s k : ℕ) → 16 ≤ k → Cut s k s
+cut-none s k h = record { members = λ v l. sym (ap (λ b. b && has s v) (lt-ltb v k (omega arith))) }
+
+pub cut-of : {s t k r : ℕ} → s ≡ t → Cut s k r → Cut t k r
+cut-of {k} {r} e = subst (λ s. Cut s k r) e
 
 -- ---- the numbers of a row
 
@@ -73,7 +100,7 @@ pub no-row : (z : Sizes) (q u p : ℕ) {r : FirstRow} → r ≡ noRow → ((v : 
 no-row z q u p e h = subst (λ r. FirstRowOf z q u p r) (sym e) (record {
   first-le = omega arith;
   width-le = omega arith;
-  each = λ v l. subst (λ b. NumberIfAny z (path q u p v 0 0) (cond (b && has 0 v) (0 + how-many v (inside noRow) * 0) 0)) (sym (le-ltb v 0 (omega arith))) (no-variable z (path q u p v 0 0) (h v));
+  each = λ v l. subst (λ b. NumberIfAny z (path q u p v 0 0) (cond b (0 + how-many v (has 0) * 0) 0)) (sym (has-zero v)) (no-variable z (path q u p v 0 0) (h v));
 })
 
 -- the ranges of q, u and p
@@ -116,36 +143,38 @@ module _ {z : Sizes} (f : Fitting z) where
 
   -- the number for v
   module _ (q u p b s members : ℕ) (hq : q < z .candidate .states) (hu : u < z .reference .states) (hp : p < z .candidate .states)
-      (within : before z u + inRow z u ≤ z .paths .pairs) (em : members ≡ getD (z .paths .sets) u 0) (eb : b ≡ before z u) (es : s ≡ inRow z u) where
+      (within : before z u + inRow z u ≤ z .paths .pairs) (em : Cut (getD (z .paths .sets) u 0) (z .reference .states) members) (eb : b ≡ before z u) (es : s ≡ inRow z u) where
     abbrev row : FirstRow
     row = record {
       set = members;
-      states = z .reference .states;
       width = z .candidate .subsets * z .reference .subsets;
       first = z .marks + (1 + (z .candidate .states * (q * z .paths .pairs + b) + p * s) * (z .candidate .subsets * z .reference .subsets));
     }
 
     -- all states below a state in the row are below the reference's
-    rank-is : (v : ℕ) → v < z .reference .states → how-many v (inside row) ≡ rankIn z u v
-    rank-is v h = how-many-same v (inside row) (keptIn z u) (λ i l. let k : i < z .reference .states = omega arith in rw (lt-ltb i (z .reference .states) k) (ap (λ m. has m i) em))
+    rank-is : (v : ℕ) → v < z .reference .states → how-many v (has members) ≡ rankIn z u v
+    rank-is v h =
+        how-many-same v (has members) (keptIn z u)
+        (λ i l. let k : i < z .reference .states = omega arith in em .members i (omega (arith, f .r-le)) ∙ ap (λ b. b && keptIn z u i) (lt-ltb i (z .reference .states) k))
 
-    there : (v : ℕ) → inside row v ≡ true → NumberIfAny z (path q u p v 0 0) (row .first + how-many v (inside row) * row .width)
-    there v t =
+    there : (v : ℕ) → v < 16 → has members v ≡ true → NumberIfAny z (path q u p v 0 0) (row .first + how-many v (has members) * row .width)
+    there v h t =
+        let t : (ltb v (z .reference .states) && keptIn z u v) ≡ true = sym (em .members v h) ∙ t in
         let hv : v < z .reference .states = ltb-true v (z .reference .states) (and-left _ _ t) in
-        let kept : keptIn z u v ≡ true = sym (ap (λ m. has m v) em) ∙ and-right (ltb v (z .reference .states)) _ t in
+        let kept : keptIn z u v ≡ true = and-right (ltb v (z .reference .states)) _ t in
         let i : InFile z (path q u p v 0 0) = ((hq, hu, hp, hv, pow-pos (z .candidate .sets), pow-pos (z .reference .sets), kept), within) in
-        let k = how-many v (inside row) in
+        let k = how-many v (has members) in
         let e = path-is f {b = b} {s = s} {k = k} q u p v 0 0 eb es (rank-is v hv) in
         let l = path-lt f b s k i eb es (rank-is v hv) in
         let same : row .first + k * row .width ≡ z .marks + (1 + (((z .candidate .states * (q * z .paths .pairs + b) + p * s + k) * z .candidate .subsets + 0) * z .reference .subsets + 0)) = omega arith in
         a-variable z _ f i (record { is = same ∙ e; some = omega arith; small = omega (arith, same, l .both, marks-le f) })
 
-    not-there : (v : ℕ) → inside row v ≡ false → NumberIfAny z (path q u p v 0 0) 0
-    not-there v t = no-variable z _ (λ (g, ((a, b, c, d, i, j, kept), w)). false-not _ t (and-true (lt-ltb v (z .reference .states) d) (ap (λ m. has m v) em ∙ kept)))
+    not-there : (v : ℕ) → v < 16 → has members v ≡ false → NumberIfAny z (path q u p v 0 0) 0
+    not-there v h t = no-variable z _ (λ (g, ((a, b, c, d, i, j, kept), w)). false-not _ t (em .members v h ∙ and-true (lt-ltb v (z .reference .states) d) kept))
 
     pub row-of-first : FirstRowOf z q u p row
     row-of-first = record {
       first-le = omega (arith, marks-le f, row-le {q = q} {p = p} {b = b} {s = s} hq hp (omega (arith, eb, es, within)) .both);
       width-le = markings-le f;
-      each = λ v h. on-cond (NumberIfAny z (path q u p v 0 0)) (inside row v) _ 0 (there v) (not-there v);
+      each = λ v h. on-cond (NumberIfAny z (path q u p v 0 0)) (has members v) _ 0 (there v h) (not-there v h);
     }

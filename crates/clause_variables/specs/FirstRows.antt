@@ -1,5 +1,6 @@
 -- A row as the code counts its first paths.
-use mathlib.Core.Bool.{Bool, cond, _&&_}
+use mathlib.Core.Path.{_≡_}
+use mathlib.Core.Bool.{cond, _&&_}
 use Prim.Native.Nat.{ℕ, _+_, _*_, _≤_, _<_}
 use lib.Dec.{ltb}
 use Rattle.meaning.specs.BitSet.{has}
@@ -9,16 +10,16 @@ use Rattle.clause_sizes.specs.declared.Sizes.{Sizes}
 use Rattle.clause_sizes.specs.Numbers.{NumberIfAny}
 use Rattle.clause_variables.specs.declared.firsts.FirstRow.{FirstRow}
 
--- whether v is in the row
-abbrev pub inside : FirstRow → ℕ → Bool
-inside r v = ltb v (r .states) && has (r .set) v
+-- r is the part of a set below states
+pub record Cut (set states r : ℕ) : Type 0 where
+  pub members : (v : ℕ) → v < 16 → has r v ≡ (ltb v states && has set v)
 
 -- the number for v: the first one, and the width for each state of the row below v
 abbrev pub firstAt : FirstRow → ℕ → ℕ
-firstAt r v = cond (inside r v) (r .first + how-many v (inside r) * r .width) 0
+firstAt r v = cond (has (r .set) v) (r .first + how-many v (has (r .set)) * r .width) 0
 
 abbrev pub noRow : FirstRow
-noRow = record { set = 0; states = 0; width = 0; first = 0 }
+noRow = record { set = 0; width = 0; first = 0 }
 
 pub record FirstRowOf (z : Sizes) (q u p : ℕ) (r : FirstRow) : Type 0 where
   pub first-le : r .first ≤ 4199425

@@ -1,6 +1,5 @@
 // For fixed q, u and p the numbers of path(q, u, p, v, 0, 0), counted from one reference state v to the next.
 use crate::rows::row_of;
-use crate::rows::within;
 use automaton::Automaton;
 use automaton::states::CandidateState;
 use automaton::states::ReferenceState;
@@ -9,17 +8,15 @@ use clause_sizes::Sizes;
 use clause_sizes::fitting;
 ghost use mathlib.Core.Path.{_≡_};
 ghost use mathlib.Core.Bool.{cond};
-ghost use Prim.Native.Nat.{_+_, _≤_, _<_};
+ghost use Prim.Native.Nat.{_≤_, _<_};
 ghost use lib.ListN.{length};
 ghost use Rattle.automaton.specs.Value.{table};
 ghost use Rattle.clause_sizes.specs.Sizes.{Fitting};
-ghost use Rattle.clause_sizes.specs.Numbers.{before, inRow};
-ghost use Rattle.clause_variables.specs.FirstRows.{FirstRowOf, firstAt, noRow};
+ghost use Rattle.clause_variables.specs.FirstRows.{Cut, FirstRowOf, firstAt, noRow};
 
-// A row: its set of states, how many states the reference has, how many paths lead to each, and the first path's number.
+// A row: its set of states, how many paths lead to each, and the first path's number.
 pub struct FirstRow {
     pub set: u16,
-    pub states: usize,
     pub width: usize,
     pub first: usize,
 }
@@ -35,9 +32,6 @@ pub fn first_row(z: Sizes, q: CandidateState, u: ReferenceState, p: CandidateSta
     if !((q.0 < n) & (u.0 < z.reference.states) & (p.0 < n)) {
         return no_row();
     }
-    if !within(z, u) {
-        return no_row();
-    }
     row_in(z, q, u, p)
 }
 
@@ -46,7 +40,6 @@ fn no_row() -> FirstRow
 {
     FirstRow {
         set: 0,
-        states: 0,
         width: 0,
         first: 0,
     }
@@ -56,20 +49,31 @@ fn no_row() -> FirstRow
 fn row_in(z: Sizes, q: CandidateState, u: ReferenceState, p: CandidateState) -> FirstRow
     requires { ⌜ Fitting z ⌝ }
     requires { ⌜ (q .0 < z .candidate .states) × (u .0 < z .reference .states) × (p .0 < z .candidate .states) ⌝ }
-    requires { ⌜ before z (u .0) + inRow z (u .0) ≤ z .paths .pairs ⌝ }
     ensures { λ r. ⌜ FirstRowOf z (q .0) (u .0) (p .0) r ⌝ }
 {
-    let n = z.candidate.states;
     let row = row_of(z, u);
     let paths = z.paths;
+    if row.before + row.size > paths.pairs {
+        return no_row();
+    }
+    let n = z.candidate.states;
     let width = z.candidate.subsets * z.reference.subsets;
     let pair = n * (q.0 * paths.pairs + row.before) + p.0 * row.size;
     FirstRow {
-        set: row.set,
-        states: z.reference.states,
+        set: cut(row.set, z.reference.states),
         width,
         first: z.marks + (1 + pair * width),
     }
+}
+
+// The members of a set below `states`.
+fn cut(set: u16, states: usize) -> u16
+    ensures { λ r. ⌜ Cut set states r ⌝ }
+{
+    if states >= Automaton::STATES {
+        return set;
+    }
+    set % (1 << states)
 }
 
 // Writes for each reference state its number, or 0 where it is not in the row.
@@ -81,7 +85,7 @@ pub fn fill(row: FirstRow, numbers: &mut [usize])
     let mut next = row.first;
     let mut v: usize = 0;
     while v < Automaton::STATES {
-        let there = (v < row.states) & has(row.set, v);
+        let there = has(row.set, v);
         numbers[v] = or_0(there, next);
         next += or_0(there, row.width);
         v += 1;

@@ -11,7 +11,9 @@ past-requires : tie.Need-past-requires
 past-requires c κs = search needs
 
 returns : tie.Need-returns
-returns c = let a = c .before .before .args in state-passed (a .z) (a .x) (a .position) (c .before .wrapping-add-usize .ensures) (c .past .ensures)
+returns c =
+    let a = c .before .before .before .before .before .before .args in
+    state-passed (a .z) (a .x) (a .position) (c .before .before .before .before .before .wrapping-add-usize .ensures) (c .past .ensures)
 
 pub past-state-spec : {M : Type 1} → statement M
 past-state-spec = tie.close (tie.spec wrapping-add-usize-requires past-requires returns)

@@ -1,10 +1,8 @@
 -- `firsts::fill` meets its contract.
-use mathlib.Core.Path.{sym, ap, _∙_}
-use mathlib.Core.Bool.{_&&_}
+use mathlib.Core.Path.{sym, _∙_}
 use Prim.Native.Nat.{_-_}
 use native.Mathlib.Omega.{arith}
 use Rattle.meaning.specs.CountingLaws.{filled-all}
-use lib.Dec.{ltb}
 use Rattle.clause_variables.proofs.FirstLaws.{Counted, counted-none, counted-more, at-most-all}
 use Rattle.clause_variables.proofs.firsts.fill.Statement.{statement}
 use Rattle.clause_variables.proofs.firsts.fill.Tie as tie
@@ -25,19 +23,19 @@ or-0-requires : tie.Need-or-0-requires Inv-loop μ-loop
 or-0-requires c κs = tt
 
 mul-numbers : tie.Need-mul-numbers Inv-loop μ-loop
-mul-numbers c = omega (arith, c .before .before .before .before .loop .inv .filled .reached)
+mul-numbers c = omega (arith, c .before .before .before .loop .inv .filled .reached)
 
 slice-write-numbers : tie.Need-slice-write-numbers Inv-loop μ-loop
-slice-write-numbers c = omega (arith, c .before .before .before .before .loop .inv .filled .size)
+slice-write-numbers c = omega (arith, c .before .before .before .loop .inv .filled .size)
 
 or-0-requires-2 : tie.Need-or-0-requires-2 Inv-loop μ-loop
 or-0-requires-2 c κs = tt
 
 add-next : tie.Need-add-next Inv-loop μ-loop
 add-next c =
-    let l = c .before .before .before .before .before .loop in
-    let a = c .before .before .before .before .before .before .before .args in
-    omega (arith, l .inv .next-le, c .before .before .before .before .before .before .before .pre .0, c .before .before .before .before .loop-test .taken, at-most-all (ltb (l .v) (a .row .states) && c .before .before .has .result) (a .row .width) (c .or-02 .ensures))
+    let l = c .before .before .before .before .loop in
+    let a = c .before .before .before .before .before .before .args in
+    omega (arith, l .inv .next-le, c .before .before .before .before .before .before .pre .0, c .before .before .before .loop-test .taken, at-most-all (c .before .before .has .result) (a .row .width) (c .or-02 .ensures))
 
 add-v : tie.Need-add-v Inv-loop μ-loop
 add-v c = omega arith
@@ -47,9 +45,9 @@ loop-less c = omega arith
 
 loop-again : tie.Need-loop-again Inv-loop μ-loop
 loop-again c =
-    let l = c .before .before .before .before .before .loop in
-    let s = c .before .before .before .before .before .before .before in
-    counted-more _ _ _ _ (l .inv) (c .before .before .before .before .loop-test .taken) (s .pre .0 .1) (ap (λ b. ltb (l .v) (s .args .row .states) && b) (c .before .before .has .ensures)) (c .before .or-0 .ensures) (c .or-02 .ensures)
+    let l = c .before .before .before .before .loop in
+    let s = c .before .before .before .before .before .before in
+    counted-more _ _ _ _ (l .inv) (c .before .before .before .loop-test .taken) (s .pre .0 .1) (c .before .before .has .ensures) (c .before .or-0 .ensures) (c .or-02 .ensures)
 
 same-length : tie.Need-same-length Inv-loop μ-loop
 same-length c = c .before .loop .inv .filled .size ∙ sym (c .before .before .before .pre .1)

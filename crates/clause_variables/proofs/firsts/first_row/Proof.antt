@@ -1,6 +1,5 @@
 -- `firsts::first_row` meets its contract.
 use borrow.Author.Needs.{needs}
-use native.Mathlib.Omega.{arith}
 use Prim.Native.Nat.{_<_}
 use Rattle.meaning.specs.TestLaws.{fails-not, passes-so}
 use Rattle.clause_sizes.specs.Sizes.{Fitting}
@@ -35,20 +34,11 @@ ranges : (c : tie.Else2)
     (a .q .0 < a .z .candidate .states) × (a .u .0 < a .z .reference .states) × (a .p .0 < a .z .candidate .states)
 ranges c = let a = c .before .before .before .before .before .before .before .args in passes-so (row-test (a .z) (a .q .0) (a .u .0) (a .p .0)) (c .if2 .left)
 
-within-requires : tie.Need-within-requires
-within-requires c κs = omega (arith, ranges c .1, fits c .r-le)
-
-no-row-requires-3 : tie.Need-no-row-requires-3
-no-row-requires-3 c κs = search needs
+row-in-requires : tie.Need-row-in-requires
+row-in-requires c κs = (fits c, ranges c)
 
 returns-3 : tie.Need-returns-3
-returns-3 c = no-row _ _ _ _ (c .no-row3 .ensures) (λ v (f, (k, w)). fails-not (c .before .before .within .ensures) (c .before .if3 .taken) w)
-
-row-in-requires : tie.Need-row-in-requires
-row-in-requires c κs = (fits (c .before .before), (ranges (c .before .before), passes-so (c .before .within .ensures) (c .if3 .left)))
-
-returns-4 : tie.Need-returns-4
-returns-4 c = c .row-in .ensures
+returns-3 c = c .row-in .ensures
 
 pub first-row-spec : {M : Type 1} → statement M
 first-row-spec =
@@ -59,8 +49,5 @@ first-row-spec =
     returns
     no-row-requires-2
     returns-2
-    within-requires
-    no-row-requires-3
-    returns-3
     row-in-requires
-    returns-4)
+    returns-3)
