@@ -1,5 +1,5 @@
-// The reader of HOA text in plain Rust, for comparing seconds: `read COUNT < SLOTS` does what `bench_hoa_read` does, with the refusals of documents 01 and
-// 02. Each token is scanned once, one ahead of what is read, and the table is of fixed size, so that nothing is allocated.
+// The reader of HOA text in plain Rust, for comparing seconds: `read COUNT < SLOTS` does what `bench_hoa_read` does, with document 01's refusals. Each token is
+// scanned once, one ahead of what is read, and the table is of fixed size, so that nothing is allocated.
 // rustc -O read.rs
 use std::io::Read;
 
@@ -405,26 +405,8 @@ impl<'a> Reader<'a> {
                 return Err(Refusal(7, state, lacking.trailing_zeros() as usize));
             }
         }
-        let lowest = reached(a).trailing_ones() as usize;
-        if lowest < a.states {
-            return Err(Refusal(15, lowest, 0));
-        }
         Ok(())
     }
-}
-
-/// The states to which the start leads, bit q for state q.
-fn reached(a: &Automaton) -> u16 {
-    let mut reached = 1u16 << a.start;
-    let mut open = reached;
-    while open != 0 {
-        let state = open.trailing_zeros() as usize;
-        open &= open - 1;
-        let next = a.destinations[state][..1 << a.propositions].iter().fold(0, |next, to| next | 1 << to);
-        open |= next & !reached;
-        reached |= next;
-    }
-    reached
 }
 
 /// Long numbers saturate.

@@ -3,7 +3,7 @@
 use crate::automaton::{List, Profile};
 use crate::check::*;
 use crate::generate::{pair, Random};
-use crate::generate_hoa::{hoa_text, stored_text};
+use crate::generate_hoa::hoa_text;
 use crate::generate_solver::{profile_case, search_case, solver_case, SolverCase};
 use crate::hoa;
 use std::fs;
@@ -16,10 +16,10 @@ use std::thread;
 
 const WORKERS: usize = 2;
 
-/// Of eleven cases four are HOA texts, and one each is a comparison, a clause file, a solver text, a
-/// search, a clause file and a solver text for a candidate's acceptance that is named, and a text for the
-/// converter. Of the clause files and solver texts one half are those of the second list.
-const KINDS: usize = 11;
+/// Of ten cases four are HOA texts, and one each is a comparison, a clause file, a solver text, a
+/// search, and a clause file and a solver text for a candidate's acceptance that is named. Of the clause
+/// files and solver texts one half are those of the second list.
+const KINDS: usize = 10;
 
 /// Runs `count` cases; the differences, with the folders in which their inputs are kept.
 pub fn against(programs: &Path, seed: u64, count: usize, folder: &Path) -> io::Result<Vec<String>> {
@@ -62,7 +62,6 @@ impl Run<'_> {
             3 => self.search(random),
             4 => self.named_clause_file(random),
             5 => self.named_decoder(random),
-            6 => self.converter(random),
             _ => self.reader(random),
         }
     }
@@ -73,20 +72,9 @@ impl Run<'_> {
         Ok(check_normalize(&text, &printed))
     }
 
-    /// The converter, and the reader that refuses what is converted.
-    fn converter(&self, random: &mut Random) -> io::Result<Checked> {
-        let text = stored_text(random);
-        let printed = self.printed("hoa_convert", &[], &text)?;
-        if let Err(wrong) = check_convert(&text, &printed) {
-            return Ok(Err(format!("hoa_convert {wrong}")));
-        }
-        let printed = self.printed("hoa_normalize", &[], &text)?;
-        Ok(check_normalize(&text, &printed))
-    }
-
     fn comparison(&self, random: &mut Random) -> io::Result<Checked> {
         let (first, second) = pair(random);
-        let (first, second) = (hoa::text_of(&first), hoa::text_of(&second));
+        let (first, second) = (hoa::write(&first), hoa::write(&second));
         let names = [self.kept("first.hoa", &first)?, self.kept("second.hoa", &second)?];
         let printed = self.printed("hoa_compare", &names, &[])?;
         Ok(check_compare(&first, &second, &printed))
@@ -104,7 +92,7 @@ impl Run<'_> {
     }
 
     fn clauses_of(&self, program: &str, arguments: &[String], case: &SolverCase) -> io::Result<Checked> {
-        let reference = hoa::text_of(&case.reference);
+        let reference = hoa::write(&case.reference);
         let printed = self.printed(program, arguments, &reference)?;
         Ok(check_clauses(&reference, case.profile, &printed))
     }
@@ -127,7 +115,7 @@ impl Run<'_> {
         behind: &[String],
         case: &SolverCase,
     ) -> io::Result<Checked> {
-        let reference = hoa::text_of(&case.reference);
+        let reference = hoa::write(&case.reference);
         let name = self.kept("reference.hoa", &reference)?;
         let printed = self.printed(program, &[before, &[name], behind].concat(), &case.text)?;
         Ok(check_decode(&reference, case.profile, &case.text, &printed))
@@ -135,7 +123,7 @@ impl Run<'_> {
 
     fn search(&self, random: &mut Random) -> io::Result<Checked> {
         let (reference, answers) = search_case(random);
-        let reference = hoa::text_of(&reference);
+        let reference = hoa::write(&reference);
         let mut names = vec![self.kept("reference.hoa", &reference)?];
         for (count, answer) in answers.iter().enumerate() {
             names.push(self.kept(&format!("answer.{:02}", count + 1), answer)?);

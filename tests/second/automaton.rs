@@ -84,31 +84,6 @@ impl Automaton {
         self.table.iter().map(|row| row.iter().map(|edge| edge.to).collect()).collect()
     }
 
-    /// For each state whether a word leads there from the start; the empty word leads to the start itself.
-    pub fn reached(&self) -> Vec<bool> {
-        let mut reached = vec![false; self.states()];
-        reached[self.start] = true;
-        // The states that the search has entered and not left, each with the letter that it tries next.
-        let mut path = vec![(self.start, 0)];
-        while let Some((state, letter)) = path.pop() {
-            let Some(edge) = self.table[state].get(letter) else { continue };
-            path.push((state, letter + 1));
-            if !reached[edge.to] {
-                reached[edge.to] = true;
-                path.push((edge.to, 0));
-            }
-        }
-        reached
-    }
-
-    /// "15, lowest unreachable state, 0" (document 02, E7)
-    pub fn judge_reached(&self) -> Result<(), Refusal> {
-        match self.reached().iter().position(|&reached| !reached) {
-            Some(lowest) => Err(Refusal::new(15, lowest as u64, 0)),
-            None => Ok(()),
-        }
-    }
-
     /// Whether a run is accepting that meets just these sets infinitely often.
     pub fn takes(&self, met: u8) -> bool {
         says_yes(self.acceptance, met as usize)

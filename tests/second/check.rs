@@ -3,7 +3,6 @@
 use crate::automaton::{Profile, Refusal};
 use crate::clauses::File;
 use crate::compare::compare;
-use crate::convert::convert;
 use crate::decode::decode;
 use crate::hoa;
 use crate::printed::*;
@@ -20,13 +19,7 @@ fn unless_refused<T>(due: Result<T, Refusal>, printed: &[u8], check: impl FnOnce
 }
 
 pub fn check_normalize(text: &[u8], printed: &[u8]) -> Checked {
-    let due = hoa::read(text).and_then(|given| hoa::write(&given));
-    unless_refused(due, printed, |due| equal(printed, &due))
-}
-
-pub fn check_convert(text: &[u8], printed: &[u8]) -> Checked {
-    let due = hoa::read_stored(text).and_then(|given| hoa::write(&convert(&given)));
-    unless_refused(due, printed, |due| equal(printed, &due))
+    unless_refused(hoa::read(text), printed, |given| equal(printed, &hoa::write(&given)))
 }
 
 pub fn check_clauses(reference: &[u8], profile: Profile, printed: &[u8]) -> Checked {
@@ -73,7 +66,7 @@ mod tests {
     fn one_state(sets: usize, names: &[&str], marks: &[u8]) -> Vec<u8> {
         let row = marks.iter().map(|&marks| Transition { to: 0, marks }).collect();
         let names = names.iter().map(|name| name.as_bytes().to_vec()).collect();
-        hoa::text_of(&Automaton { start: 0, sets, acceptance: inf_of_all(sets), names, table: vec![row] })
+        hoa::write(&Automaton { start: 0, sets, acceptance: inf_of_all(sets), names, table: vec![row] })
     }
 
     #[test]

@@ -1,11 +1,9 @@
 //! Generated inputs, from a fixed pseudo-random generator: the same seed gives the same files.
 
 use crate::automaton::*;
-use crate::convert::convert;
 use crate::generate_acceptance::random_acceptance;
 use crate::generate_formula::full;
-use crate::generate_hoa::{hoa_text, stored_text};
-use crate::generate_reached::{all_reached, led_through, rarely_unreached, unfolded};
+use crate::generate_hoa::hoa_text;
 use crate::generate_solver::{lists_case, profile_case, search_case, solver_case, SolverCase};
 use crate::hoa;
 use crate::numbering::Numbering;
@@ -89,30 +87,20 @@ pub fn any_automaton(random: &mut Random, states: usize, k: usize, sets: usize) 
     Automaton { acceptance, ..random_automaton(random, states, k, sets) }
 }
 
-/// Any automaton of this size of which the start reaches every state.
-pub fn reached_automaton(random: &mut Random, states: usize, k: usize, sets: usize) -> Automaton {
-    let any = any_automaton(random, states, k, sets);
-    all_reached(random, &any)
-}
-
 /// The same with states in layers, and transitions to the same layer or a later one: mostly there are
-/// several components then, and states outside any cycle. The start is one of the first layer and reaches
-/// every state.
+/// several components then, and states outside any cycle.
 pub fn layered(random: &mut Random, given: &Automaton) -> Automaton {
-    let layers = Layers::new(random, given.states());
+    let layers = Layers::new(random, given.states(), given.states());
     let mut other = given.clone();
     for (q, row) in other.table.iter_mut().enumerate() {
-        let onward = layers.onward(q);
+        let onward = layers.onward(q, (0..given.states()).collect());
         for edge in row {
             if !onward.contains(&edge.to) {
                 edge.to = random.pick(&onward);
             }
         }
     }
-    let mut order: Vec<usize> = (0..given.states()).collect();
-    random.shuffle(&mut order);
-    order.sort_by_key(|&state| layers.layer[state]);
-    led_through(random, &other, &order)
+    other
 }
 
 /// For each state its layer.
@@ -123,20 +111,30 @@ struct Layers {
 }
 
 impl Layers {
-    fn new(random: &mut Random, states: usize) -> Layers {
-        let layers = random.within(1, states);
+    fn one(states: usize) -> Layers {
+        Layers { layer: vec![0; states], passing: vec![false] }
+    }
+
+    /// At most so many.
+    fn new(random: &mut Random, states: usize, most: usize) -> Layers {
+        let layers = random.within(1, most);
         let layer = (0..states).map(|_| random.below(layers)).collect();
         Layers { layer, passing: (0..layers).map(|_| random.one_in(3)).collect() }
     }
 
-    /// The states to which a transition may lead from the named one.
-    fn onward(&self, from: usize) -> Vec<usize> {
-        let (here, states) = (self.layer[from], 0..self.layer.len());
-        let later: Vec<usize> = states.clone().filter(|&to| self.layer[to] > here).collect();
+    /// Of these states those to which a transition may lead from the named one; all where it may lead to none.
+    fn onward(&self, from: usize, states: Vec<usize>) -> Vec<usize> {
+        let here = self.layer[from];
+        let later: Vec<usize> = states.iter().copied().filter(|&to| self.layer[to] > here).collect();
         if self.passing[here] && !later.is_empty() {
             return later;
         }
-        states.filter(|&to| self.layer[to] >= here).collect()
+        let onward: Vec<usize> = states.iter().copied().filter(|&to| self.layer[to] >= here).collect();
+        if onward.is_empty() {
+            states
+        } else {
+            onward
+        }
     }
 }
 
@@ -188,26 +186,33 @@ pub fn names(random: &mut Random, k: usize) -> Vec<Vec<u8>> {
 }
 
 /// An automaton with copies of states, and for each of its states the one it is a copy of.
-/// It agrees with the given one, whichever copy each transition leads to. Not every copy need be reached.
+/// It agrees with the given one, whichever copy each transition leads to.
 pub fn with_copies(random: &mut Random, given: &Automaton, states: usize) -> (Automaton, Vec<usize>) {
+    copied(random, given, states, &Layers::one(states))
+}
+
+/// The same with copies in layers, so that those of one component mostly fall into several.
+pub fn with_layered_copies(random: &mut Random, given: &Automaton, states: usize) -> Automaton {
+    let layers = Layers::new(random, states, 3);
+    copied(random, given, states, &layers).0
+}
+
+fn copied(random: &mut Random, given: &Automaton, states: usize, layers: &Layers) -> (Automaton, Vec<usize>) {
     let mut origin: Vec<usize> = (0..states)
         .map(|state| if state < given.states() { state } else { random.below(given.states()) })
         .collect();
     random.shuffle(&mut origin);
-    let copies = |state: usize| -> Vec<usize> { (0..states).filter(|&copy| origin[copy] == state).collect() };
+    let copies = |state: usize| (0..states).filter(|&copy| origin[copy] == state).collect();
     let mut table = Vec::new();
-    for &of in &origin {
-        let copied = |edge: &Transition| Transition { to: random.pick(&copies(edge.to)), ..*edge };
+    for (copy, &of) in origin.iter().enumerate() {
+        let copied = |edge: &Transition| {
+            let to = random.pick(&layers.onward(copy, copies(edge.to)));
+            Transition { to, ..*edge }
+        };
         table.push(given.table[of].iter().map(copied).collect());
     }
-    let start = random.pick(&copies(given.start));
+    let start = random.pick::<usize>(&copies(given.start));
     (Automaton { start, table, ..given.clone() }, origin)
-}
-
-/// An automaton with copies of states, all of them reached. Those of one component mostly fall into several.
-pub fn with_layered_copies(random: &mut Random, given: &Automaton, states: usize) -> Automaton {
-    let layers = random.pick(&[1, 2, 3, 3, 4]);
-    unfolded(random, given, states, layers)
 }
 
 /// The same automaton with states 0 and `start` exchanged: the start is then 0.
@@ -395,7 +400,6 @@ fn product_steps(
 pub fn generate(kind: &str, seed: u64, count: usize, directory: &Path) -> io::Result<()> {
     let write = match kind {
         "hoa" => write_hoa,
-        "convert" => write_stored,
         "pairs" => write_pair,
         "solver" => write_solver,
         "profile" => write_profile,
@@ -410,7 +414,7 @@ pub fn generate(kind: &str, seed: u64, count: usize, directory: &Path) -> io::Re
     Ok(())
 }
 
-const KINDS: &str = "kinds: hoa, convert, pairs, solver, profile, lists, search";
+const KINDS: &str = "kinds: hoa, pairs, solver, profile, lists, search";
 
 type Names<'a> = &'a dyn Fn(&str) -> std::path::PathBuf;
 
@@ -418,14 +422,10 @@ fn write_hoa(random: &mut Random, name: Names) -> io::Result<()> {
     fs::write(name("hoa"), hoa_text(random))
 }
 
-fn write_stored(random: &mut Random, name: Names) -> io::Result<()> {
-    fs::write(name("hoa"), stored_text(random))
-}
-
 fn write_pair(random: &mut Random, name: Names) -> io::Result<()> {
     let (first, second) = pair(random);
-    fs::write(name("first.hoa"), hoa::text_of(&first))?;
-    fs::write(name("second.hoa"), hoa::text_of(&second))
+    fs::write(name("first.hoa"), hoa::write(&first))?;
+    fs::write(name("second.hoa"), hoa::write(&second))
 }
 
 fn write_solver(random: &mut Random, name: Names) -> io::Result<()> {
@@ -445,7 +445,7 @@ fn write_case(case: SolverCase, name: Names) -> io::Result<()> {
 }
 
 fn write_reference(reference: &Automaton, profile: &Profile, name: Names) -> io::Result<()> {
-    fs::write(name("reference.hoa"), hoa::text_of(reference))?;
+    fs::write(name("reference.hoa"), hoa::write(reference))?;
     fs::write(name("sizes"), format!("{} {}\n", profile.n, profile.m))
 }
 
@@ -458,7 +458,7 @@ fn write_lists(random: &mut Random, name: Names) -> io::Result<()> {
 
 fn write_search(random: &mut Random, name: Names) -> io::Result<()> {
     let (reference, answers) = search_case(random);
-    fs::write(name("reference.hoa"), hoa::text_of(&reference))?;
+    fs::write(name("reference.hoa"), hoa::write(&reference))?;
     for (count, answer) in answers.iter().enumerate() {
         fs::write(name(&format!("answer.{:02}", count + 1)), answer)?;
     }
@@ -466,29 +466,23 @@ fn write_search(random: &mut Random, name: Names) -> io::Result<()> {
 }
 
 /// Two automata: the same but for names, copies and sets; nearly that; the second accepts what the
-/// first does not; or any two. Now and then they have not the same number of propositions, or one has a state
-/// that is not reached.
+/// first does not; or any two. Now and then they have not the same number of propositions.
 pub fn pair(random: &mut Random) -> (Automaton, Automaton) {
-    let (first, second) = reached_pair(random);
-    (rarely_unreached(random, first, 40), rarely_unreached(random, second, 40))
-}
-
-fn reached_pair(random: &mut Random) -> (Automaton, Automaton) {
     let (states, k, sets) = random_sizes(random);
-    let any = reached_automaton(random, states, k, sets);
+    let any = any_automaton(random, states, k, sets);
     let first = if random.one_in(6) { sparse_automaton(random) } else { any };
     let (states, k, sets) = (first.states(), first.propositions(), first.sets);
     if random.one_in(40) {
         let other_k = random.within(0, 4);
-        return (first, reached_automaton(random, states, other_k, sets));
+        return (first, any_automaton(random, states, other_k, sets));
     }
     if random.one_in(5) {
         let (other_states, other_sets) = (random.within(1, 4), random.within(0, 3));
-        return (first, reached_automaton(random, other_states, k, other_sets));
+        return (first, any_automaton(random, other_states, k, other_sets));
     }
     let copies = (states + random.below(3)).min(MAX_STATES);
     let more = (sets + random.below(3)).min(MAX_SETS);
-    let copied = unfolded(random, &first, copies, 1);
+    let (copied, _) = with_copies(random, &first, copies);
     let mut second = in_other_words(random, &copied, more);
     if random.one_in(20) {
         second.acceptance ^= full(more);
@@ -496,7 +490,6 @@ fn reached_pair(random: &mut Random) -> (Automaton, Automaton) {
     for _ in 0..random.below(4) {
         second = nearly(random, &second);
     }
-    let second = convert(&second);
     if random.one_in(2) {
         (first, second)
     } else {
@@ -534,9 +527,7 @@ mod tests {
         for _ in 0..200 {
             let (states, k, sets) = random_sizes(&mut random);
             let given = any_automaton(&mut random, states, k, sets);
-            assert_eq!(hoa::read_stored(&hoa::text_of(&given)), Ok(given));
-            let given = reached_automaton(&mut random, states, k, sets);
-            assert_eq!(hoa::write(&given).and_then(|text| hoa::read(&text)), Ok(given));
+            assert_eq!(hoa::read(&hoa::write(&given)), Ok(given));
         }
     }
 

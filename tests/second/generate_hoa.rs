@@ -1,45 +1,21 @@
 //! Generated HOA texts: valid ones in many layouts, and damaged ones.
 
 use crate::automaton::*;
-use crate::generate::{layered, names, random_sizes, reached_automaton, Random};
+use crate::generate::{any_automaton, names, random_sizes, Random};
 use crate::generate_acceptance::condition;
 use crate::generate_formula::{full, label, words, Token};
-use crate::generate_reached::{rarely_unreached, with_unreached};
 
-/// Nearly half are valid; of one in ten the start does not reach every state.
+/// Nearly half are valid.
 pub fn hoa_text(random: &mut Random) -> Vec<u8> {
     parts_and_text(random).1
 }
 
-/// For the converter: three in four are valid, and mostly the start does not reach every state.
-pub fn stored_text(random: &mut Random) -> Vec<u8> {
-    let automaton = stored_automaton(random);
-    let valid = !random.one_in(4);
-    laid_out(random, &automaton, valid).1
-}
-
-/// Up to 16 states of which few are reached, or most, or all.
-fn stored_automaton(random: &mut Random) -> Automaton {
-    let most = random.pick(&[3, 6, MAX_STATES]);
-    let states = random.within(2, most);
-    let reached = if random.one_in(6) { states } else { random.within(1, states - 1) };
-    let (k, sets) = (random.pick(&[0, 0, 1, 1, 1, 2, 2, 3, 4]), random.within(0, MAX_SETS));
-    let any = reached_automaton(random, reached, k, sets);
-    let kept = if random.one_in(2) { layered(random, &any) } else { any };
-    with_unreached(random, &kept, states - reached)
-}
-
 /// The parts, and the text that they give, perhaps with damage to its tokens or bytes.
 fn parts_and_text(random: &mut Random) -> (Parts, Vec<u8>) {
-    let valid = random.below(100) < 43;
+    let valid = random.below(100) < 37;
     let (states, k, sets) = random_sizes(random);
-    let reached = reached_automaton(random, states, k, sets);
-    let automaton = rarely_unreached(random, reached, 10);
-    laid_out(random, &automaton, valid)
-}
-
-fn laid_out(random: &mut Random, automaton: &Automaton, valid: bool) -> (Parts, Vec<u8>) {
-    let mut parts = Parts::of(random, automaton);
+    let automaton = any_automaton(random, states, k, sets);
+    let mut parts = Parts::of(random, &automaton);
     if valid {
         let text = lay_out(random, &parts.tokens());
         let text = if random.one_in(100) { lengthened(text, 65_536) } else { text };
@@ -47,15 +23,15 @@ fn laid_out(random: &mut Random, automaton: &Automaton, valid: bool) -> (Parts, 
     }
     let text = match random.below(8) {
         0 | 1 => {
-            parts.damage(random, automaton);
+            parts.damage(random, &automaton);
             lay_out(random, &parts.tokens())
         }
         2 => {
-            parts.damage_short_forms(random, automaton);
+            parts.damage_short_forms(random, &automaton);
             lay_out(random, &parts.tokens())
         }
         3 => {
-            parts.damage_acceptance(random, automaton);
+            parts.damage_acceptance(random, &automaton);
             lay_out(random, &parts.tokens())
         }
         4 | 5 => {
@@ -669,7 +645,6 @@ fn any_byte(random: &mut Random) -> u8 {
 #[cfg(test)]
 mod tests {
     use super::*;
-    use crate::convert::convert;
     use crate::hoa;
     use std::collections::BTreeMap;
 
@@ -699,7 +674,7 @@ mod tests {
         let (mut all_listed, mut some_listed, mut repeated, mut left_out) = (0, 0, 0, 0);
         for _ in 0..400 {
             let (states, k, sets) = random_sizes(&mut random);
-            let automaton = reached_automaton(&mut random, states, k, sets);
+            let automaton = any_automaton(&mut random, states, k, sets);
             let mut parts = Parts::of(&mut random, &automaton);
             let text = lay_out(&mut random, &parts.tokens());
             let due = Ok(automaton);
@@ -718,11 +693,10 @@ mod tests {
     #[test]
     fn all_refusals_of_the_reader_occur() {
         let mut random = Random::new(5);
-        let (mut count, mut with_listed, mut with_marked) = ([0; 9], [0; 9], [0; 9]);
-        for _ in 0..6000 {
+        let (mut count, mut with_listed, mut with_marked) = ([0; 8], [0; 8], [0; 8]);
+        for _ in 0..3000 {
             let (parts, text) = parts_and_text(&mut random);
-            // 15 has the last place.
-            let number = hoa::read(&text).err().map_or(0, |refusal| refusal.number as usize).min(8);
+            let number = hoa::read(&text).err().map_or(0, |refusal| refusal.number as usize);
             count[number] += 1;
             with_listed[number] += (listed_states(&parts) > 0) as usize;
             with_marked[number] += has_marked_state(&parts) as usize;
@@ -732,36 +706,13 @@ mod tests {
         assert!(with_marked.iter().all(|&times| times > 5), "{with_marked:?}");
     }
 
-    /// What the converter is given: with states that are not reached, without, and refused for something else;
-    /// mostly few of the states stay, at times most, and the start moves or stays.
-    #[test]
-    fn stored_texts_are_of_all_kinds() {
-        let mut random = Random::new(29);
-        let (mut refused, mut itself, mut fewer) = (0, 0, 0);
-        let (mut of_many, mut half, mut start_moved) = (0, 0, 0);
-        for _ in 0..1000 {
-            let Ok(stored) = hoa::read_stored(&stored_text(&mut random)) else {
-                refused += 1;
-                continue;
-            };
-            let converted = convert(&stored);
-            itself += (converted == stored) as usize;
-            fewer += (converted != stored) as usize;
-            of_many += (stored.states() > 8 && converted != stored) as usize;
-            half += (converted.states() < stored.states() && converted.states() * 2 > stored.states()) as usize;
-            start_moved += (converted.start != stored.start) as usize;
-        }
-        assert!(refused > 100 && itself > 100 && fewer > 500, "{refused} {itself} {fewer}");
-        assert!(of_many > 80 && half > 100 && start_moved > 200, "{of_many} {half} {start_moved}");
-    }
-
     #[test]
     fn damage_of_the_acceptance_has_all_ends() {
         let mut random = Random::new(7);
         let mut ends: BTreeMap<&str, usize> = BTreeMap::new();
         for _ in 0..2000 {
             let (states, k, sets) = random_sizes(&mut random);
-            let automaton = reached_automaton(&mut random, states, k, sets);
+            let automaton = any_automaton(&mut random, states, k, sets);
             let mut parts = Parts::of(&mut random, &automaton);
             parts.damage_acceptance(&mut random, &automaton);
             let text = lay_out(&mut random, &parts.tokens());
@@ -797,7 +748,7 @@ mod tests {
         let mut ends: BTreeMap<&str, usize> = BTreeMap::new();
         for _ in 0..2000 {
             let (states, k, sets) = random_sizes(&mut random);
-            let automaton = reached_automaton(&mut random, states, k, sets);
+            let automaton = any_automaton(&mut random, states, k, sets);
             let mut parts = Parts::of(&mut random, &automaton);
             parts.damage_short_forms(&mut random, &automaton);
             let text = lay_out(&mut random, &parts.tokens());

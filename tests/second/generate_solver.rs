@@ -3,7 +3,6 @@
 use crate::automaton::*;
 use crate::generate::*;
 use crate::generate_acceptance::random_acceptance;
-use crate::generate_reached::rarely_unreached;
 use crate::numbering::Numbering;
 use crate::search::Search;
 
@@ -49,7 +48,7 @@ fn case_of(random: &mut Random, plan: Plan, wide: Automaton, n: usize, acceptanc
     let text = match random.below(8) {
         0 => verdict_only(random, "UNSATISFIABLE"),
         1 => verdict_only(random, "UNKNOWN"),
-        2 | 3 => {
+        2 => {
             // A text for the one list may be given to the other.
             let other = any_list(random);
             table_text(random, &plan, &wide, n, other)
@@ -63,7 +62,7 @@ fn case_of(random: &mut Random, plan: Plan, wide: Automaton, n: usize, acceptanc
         _ => (n, m),
     };
     let profile = Profile { n: n as u64, m: m as u64, acceptance, list };
-    SolverCase { reference: rarely_unreached(random, plan.reference, 25), profile, text }
+    SolverCase { reference: plan.reference, profile, text }
 }
 
 fn any_list(random: &mut Random) -> List {
@@ -97,9 +96,9 @@ fn with_a_table(random: &mut Random, states: usize, n: usize) -> (Automaton, usi
     (reference, m, in_other_words(random, &core, m).acceptance)
 }
 
-/// Any automaton of this size with every state reached, half of them with layers.
+/// Any automaton of this size, half of them with layers.
 fn any_core(random: &mut Random, states: usize, k: usize, sets: usize) -> Automaton {
-    let core = reached_automaton(random, states, k, sets);
+    let core = any_automaton(random, states, k, sets);
     if random.one_in(2) {
         return layered(random, &core);
     }
@@ -387,11 +386,6 @@ fn damage_bytes(random: &mut Random, text: &mut Vec<u8>) {
 /// A reference and answers to the questions that the search puts one after the other; the last
 /// may be refused, and a finished search may be told one more.
 pub fn search_case(random: &mut Random) -> (Automaton, Vec<Vec<u8>>) {
-    let (reference, answers) = chain(random);
-    (rarely_unreached(random, reference, 25), answers)
-}
-
-fn chain(random: &mut Random) -> (Automaton, Vec<Vec<u8>>) {
     let mut plan = Plan::new(random);
     if random.one_in(2) {
         let further = random.pick(&[1, 2, 3, 4, 5, 12]);
@@ -517,11 +511,12 @@ mod tests {
         assert!(count.iter().all(|&times| times > 50), "{count:?}");
     }
 
-    /// How many references that are read have one component and several states, have several components, have a
-    /// state outside any cycle, and have a component whose states do not follow one another.
-    fn shapes(references: &[Automaton]) -> [usize; 4] {
-        let mut count = [0; 4];
-        for reference in references.iter().filter(|reference| reference.judge_reached().is_ok()) {
+    /// How many references have one component and several states, have several components, have a state outside
+    /// any cycle, have a component whose states do not follow one another, and have a state that the start
+    /// does not reach.
+    fn shapes(references: &[Automaton]) -> [usize; 5] {
+        let mut count = [0; 5];
+        for reference in references {
             let component = components(&reference.destinations());
             let states = 0..reference.states();
             let one = states.clone().all(|u| component[u] == component[0]);
@@ -530,8 +525,15 @@ mod tests {
             let parted =
                 |u: usize, v: usize| component[u] == component[v] && (u..v).any(|w| component[w] != component[u]);
             let between = states.clone().any(|u| states.clone().any(|v| parted(u, v)));
-            let told = [one && reference.states() > 1, !one, outside, between];
-            (0..4).for_each(|shape| count[shape] += told[shape] as usize);
+            let mut reached = vec![false; reference.states()];
+            let mut open = vec![reference.start];
+            while let Some(u) = open.pop() {
+                if !std::mem::replace(&mut reached[u], true) {
+                    open.extend(reference.table[u].iter().map(|edge| edge.to));
+                }
+            }
+            let told = [one && reference.states() > 1, !one, outside, between, reached.contains(&false)];
+            (0..5).for_each(|shape| count[shape] += told[shape] as usize);
         }
         count
     }
@@ -543,9 +545,9 @@ mod tests {
         let profile: Vec<Automaton> = (0..600).map(|_| profile_case(&mut random).reference).collect();
         let lists: Vec<Automaton> = (0..600).map(|_| lists_case(&mut random).0).collect();
         for references in [solver, profile, lists] {
-            let [one, several, outside, between] = shapes(&references);
-            let all = [one, several, outside, between];
-            assert!(one > 60 && several > 300 && outside > 120 && between > 20, "{all:?}");
+            let [one, several, outside, between, unreached] = shapes(&references);
+            let all = [one, several, outside, between, unreached];
+            assert!(one > 60 && several > 300 && outside > 120 && between > 20 && unreached > 60, "{all:?}");
         }
     }
 

@@ -136,16 +136,8 @@ fn body_word(text: &[u8], at: usize) -> Result<Token<'_>, Refusal> {
 // ---------------------------------------------------------------------------------------
 // The reader
 
-/// The automaton that the text gives, or why it is turned down. "A state not reachable from the start is
-/// refused", with 15, "after 7" (document 02, E7)
+/// The automaton that the text gives, or why it is turned down.
 pub fn read(text: &[u8]) -> Result<Automaton, Refusal> {
-    let given = read_stored(text)?;
-    given.judge_reached()?;
-    Ok(given)
-}
-
-/// "Stored references, read without this refusal for the purpose" (document 02, E7): the converter's.
-pub fn read_stored(text: &[u8]) -> Result<Automaton, Refusal> {
     if text.len() > MAX_TEXT {
         return Err(Refusal::at(2, MAX_TEXT));
     }
@@ -603,16 +595,9 @@ fn judge_whole(text: &[u8], states: Vec<Option<State>>) -> Result<Vec<Vec<Transi
 // ---------------------------------------------------------------------------------------
 // The writer
 
-/// The text of an automaton, unless it has a state that the start does not reach: 15.
-pub fn write(automaton: &Automaton) -> Result<Vec<u8>, Refusal> {
-    automaton.judge_reached()?;
-    Ok(text_of(automaton))
-}
-
 /// "Written: HOA, States, Start, AP (left out for k = 0), Acceptance, each on its line with one
-/// space between tokens but none inside the condition". For generated inputs also of what is not written
-/// since 15.
-pub fn text_of(automaton: &Automaton) -> Vec<u8> {
+/// space between tokens but none inside the condition"
+pub fn write(automaton: &Automaton) -> Vec<u8> {
     let mut out = Vec::new();
     line(&mut out, "HOA: v1");
     line(&mut out, &format!("States: {}", automaton.states()));
@@ -697,9 +682,9 @@ mod tests {
         format!("HOA: v1 States: 2 Start: 0 AP: 1 \"a\" Acceptance: 2 Inf(0)&Inf(1) --BODY-- {body} --END--")
     }
 
-    /// The destinations and marks, by state and letter, whether the states are reached or not.
+    /// The destinations and marks, by state and letter.
     fn table(text: &str) -> Vec<Vec<(usize, u8)>> {
-        let read = read_stored(text.as_bytes()).expect("the text should be read");
+        let read = read(text.as_bytes()).expect("the text should be read");
         read.table.iter().map(|row| row.iter().map(|edge| (edge.to, edge.marks)).collect()).collect()
     }
 
@@ -715,7 +700,7 @@ mod tests {
         assert_eq!(refused(&one_state(1, "0 t", "[0] 0 [t] 0")), (6, 0, 1));
         // "States 16 passes, 17 gives 2"
         let states = |count: usize| {
-            let body: String = (0..count).map(|q| format!("State: {q} [t] {}\n", (q + 1) % count)).collect();
+            let body: String = (0..count).map(|q| format!("State: {q} [t] 0\n")).collect();
             format!("HOA: v1 States: {count} Start: 0 Acceptance: 0 t --BODY-- {body} --END--")
         };
         assert_eq!(read(states(16).as_bytes()).unwrap().states(), 16);
@@ -726,7 +711,7 @@ mod tests {
     fn written_text_reads_back() {
         let text = one_state(2, "2 Inf(0)&Inf(1)", "[!0&!1]0[0&!1]0{0}[!0&1]0{1 1}[0&1]0{1 0}");
         let read_once = read(text.as_bytes()).unwrap();
-        let written = write(&read_once).unwrap();
+        let written = write(&read_once);
         let lines = "HOA: v1\nStates: 1\nStart: 0\nAP: 2 \"a\" \"b\"\nAcceptance: 2 Inf(0)&Inf(1)\n--BODY--\n\
                      State: 0\n[!0&!1] 0\n[0&!1] 0 {0}\n[!0&1] 0 {1}\n[0&1] 0 {0 1}\n--END--\n";
         assert_eq!(String::from_utf8(written.clone()).unwrap(), lines);
@@ -737,7 +722,7 @@ mod tests {
     fn no_propositions_are_left_out() {
         let text = "HOA:v1 States:1 Start:0--BODY----END--";
         assert_eq!(refused(text), (3, place(text, "--BODY--", 0), 0));
-        let written = write(&read(one_state(0, "0 t", "[t] 0").as_bytes()).unwrap()).unwrap();
+        let written = write(&read(one_state(0, "0 t", "[t] 0").as_bytes()).unwrap());
         let lines = "HOA: v1\nStates: 1\nStart: 0\nAcceptance: 0 t\n--BODY--\nState: 0\n[t] 0\n--END--\n";
         assert_eq!(written, lines.as_bytes());
     }
@@ -808,7 +793,7 @@ mod tests {
             assert_eq!(acceptance(condition), (2, 0b1000), "{condition}");
         }
         let text = one_state(0, "2 Inf(1)&Inf(0)", "[t] 0");
-        let written = String::from_utf8(write(&read(text.as_bytes()).unwrap()).unwrap()).unwrap();
+        let written = String::from_utf8(write(&read(text.as_bytes()).unwrap())).unwrap();
         assert!(written.contains("\nAcceptance: 2 Inf(0)&Inf(1)\n"), "{written}");
     }
 
@@ -1092,7 +1077,7 @@ mod tests {
     fn the_short_forms_are_written_in_full() {
         let text = two_states("State: 1 \"x\" {1} 1 0 {0} State: 0 {0} [t] 1");
         let read_once = read(text.as_bytes()).unwrap();
-        let written = write(&read_once).unwrap();
+        let written = write(&read_once);
         let lines = "HOA: v1\nStates: 2\nStart: 0\nAP: 1 \"a\"\nAcceptance: 2 Inf(0)&Inf(1)\n--BODY--\n\
                      State: 0\n[!0] 1 {0}\n[0] 1 {0}\nState: 1\n[!0] 1 {1}\n[0] 0 {0 1}\n--END--\n";
         assert_eq!(String::from_utf8(written.clone()).unwrap(), lines);
@@ -1126,57 +1111,5 @@ mod tests {
         assert_eq!(refused(&text), (1, place(&text, "--EN", 0), 0));
         let text = one_state(0, "0 t", "[t] 0") + " HOA:";
         assert_eq!(refused(&text), (1, place(&text, "HOA:", 1), 0));
-    }
-
-    /// Three states without propositions, one set.
-    fn three_states(start: usize, body: &str) -> String {
-        format!("HOA: v1 States: 3 Start: {start} Acceptance: 1 Inf(0) --BODY-- {body} --END--")
-    }
-
-    #[test]
-    fn the_lowest_state_that_is_not_reached() {
-        // By the order of their numbers, not of the text.
-        assert_eq!(refused(&three_states(0, "State: 2 [t] 2 State: 1 [t] 1 State: 0 [t] 0")), (15, 1, 0));
-        assert_eq!(refused(&three_states(1, "State: 0 [t] 1 State: 1 [t] 1 State: 2 [t] 0")), (15, 0, 0));
-        assert_eq!(refused(&three_states(2, "State: 0 [t] 2 State: 1 [t] 0 State: 2 [t] 0")), (15, 1, 0));
-        // Reached from an unreached state only, or from itself.
-        assert_eq!(refused(&three_states(0, "State: 0 [t] 0 State: 1 [t] 2 State: 2 [t] 1")), (15, 1, 0));
-        assert_eq!(refused(&three_states(0, "State: 0 1 State: 1 0 State: 2 {0} 2")), (15, 2, 0));
-        // Nothing leads to the start.
-        assert!(read(three_states(1, "State: 0 [t] 2 State: 1 [t] 0 State: 2 [t] 2").as_bytes()).is_ok());
-    }
-
-    #[test]
-    fn an_edge_that_no_letter_takes_leads_nowhere() {
-        let text = |label: &str| format!("State: 0 [t] 0 [{label}] 1 State: 1 [t] 0");
-        assert_eq!(refused(&two_states(&text("f"))), (15, 1, 0));
-        assert_eq!(refused(&two_states(&text("0&!0"))), (15, 1, 0));
-        assert!(read(two_states("State: 0 [0] 0 [!0] 1 State: 1 [t] 0").as_bytes()).is_ok());
-    }
-
-    /// "after 7" (document 02, E7), and so after all else.
-    #[test]
-    fn all_other_refusals_come_first() {
-        let loops = "State: 0 [t] 0 State: 1 [t] 1 State: 2 [t] 2";
-        let text = three_states(0, loops);
-        assert_eq!(refused(&text), (15, 1, 0));
-        assert!(read_stored(text.as_bytes()).is_ok());
-        for (body, refusal) in [
-            ("State: 0 [t] 0 State: 1 [t] 1 State: 2", (7, 2, 0)),
-            ("State: 0 [t] 0 State: 1 [t] 1 State: 2 [f] 0", (7, 2, 0)),
-            ("State: 0 [t] 0 State: 1 [t] 1 State: 2 [t] 2 [t] 2", (6, 2, 0)),
-        ] {
-            assert_eq!(refused(&three_states(0, body)), refusal);
-        }
-        let text = three_states(0, "State: 0 [t] 0 State: 1 [t] 1");
-        assert_eq!(refused(&text), (5, text.len() as u64, 2));
-        let text = three_states(0, loops) + " x";
-        assert_eq!(refused(&text), (1, text.len() as u64 - 1, 0));
-        let text = three_states(3, loops);
-        assert_eq!(refused(&text), (4, place(&text, "3 Acceptance", 0), 0));
-        // The reader for the converter tells them alike.
-        for text in [text, three_states(0, "State: 0 State: 1 [t] 1 State: 2 [t] 2")] {
-            assert_eq!(read_stored(text.as_bytes()), read(text.as_bytes()));
-        }
     }
 }

@@ -2,7 +2,6 @@
 //! which the first one is compared. It shares no code with it.
 //!
 //!     normalize < FILE
-//!     convert < FILE
 //!     clauses N M [LIST] < REFERENCE
 //!     compare FIRST SECOND
 //!     check FIRST SECOND PRINTED
@@ -12,7 +11,7 @@
 //!     profile decode REFERENCE N M 1|2 ACCEPTANCE transitions < SOLVER-OUTPUT
 //!     search REFERENCE [ANSWER-FILE ..]
 //!     check-search REFERENCE PRINTED [ANSWER-FILE ..]
-//!     generate hoa|convert|pairs|solver|profile|lists|search SEED COUNT DIRECTORY
+//!     generate hoa|pairs|solver|profile|lists|search SEED COUNT DIRECTORY
 //!     against PROGRAMS SEED COUNT DIRECTORY
 //!
 //! A refusal is one line `refused NUMBER A B` on standard output. The three `check` calls read
@@ -25,14 +24,12 @@ mod check;
 mod clauses;
 mod compare;
 mod components;
-mod convert;
 mod decode;
 mod formula;
 mod generate;
 mod generate_acceptance;
 mod generate_formula;
 mod generate_hoa;
-mod generate_reached;
 mod generate_solver;
 mod hoa;
 mod numbering;
@@ -69,7 +66,6 @@ fn main() {
     let words: Vec<&str> = arguments.iter().map(String::as_str).collect();
     let printed = match words[..] {
         ["normalize"] => normalize(),
-        ["convert"] => convert_input(),
         ["clauses", n, m] => print_clauses(profile(n, m, "1", "all")),
         ["clauses", n, m, list] => print_clauses(profile(n, m, list, "all")),
         ["profile", "clauses", n, m, list @ ("1" | "2"), acceptance, "transitions"] => {
@@ -150,11 +146,7 @@ fn automaton(name: &str) -> Result<Automaton, Problem> {
 // The calls
 
 fn normalize() -> Printed {
-    Ok(hoa::write(&hoa::read(&input()?)?)?)
-}
-
-fn convert_input() -> Printed {
-    Ok(hoa::write(&convert::convert(&hoa::read_stored(&input()?)?))?)
+    Ok(hoa::write(&hoa::read(&input()?)?))
 }
 
 fn print_clauses(profile: Arguments) -> Printed {

@@ -1,8 +1,7 @@
 //! What each call prints.
 
-use crate::automaton::{Automaton, Refusal};
+use crate::automaton::Refusal;
 use crate::compare::Comparison;
-use crate::convert::convert;
 use crate::decode::Decoded;
 use crate::hoa;
 use crate::search::Search;
@@ -29,17 +28,11 @@ fn differs_text(word: &Word) -> String {
 
 pub fn decoded_text(decoded: &Decoded) -> Vec<u8> {
     match decoded {
-        Decoded::Table(table) => table_text(table),
+        Decoded::Table(table) => hoa::write(table),
         Decoded::None => b"none\n".to_vec(),
         Decoded::Unknown => b"unknown\n".to_vec(),
         Decoded::Differs(word) => differs_text(word).into_bytes(),
     }
-}
-
-/// "Decoded tables pass it before they are written" (document 02, E7): the converter. A search whose best is
-/// still its reference has one without unreachable states.
-fn table_text(table: &Automaton) -> Vec<u8> {
-    hoa::write(&convert(table)).expect("the start reaches every state of a converted table")
 }
 
 pub fn search_text(search: &Search) -> Vec<u8> {
@@ -47,5 +40,5 @@ pub fn search_text(search: &Search) -> Vec<u8> {
         return format!("ask {} {}\n", search.n, search.m).into_bytes();
     }
     let first: &[u8] = if search.open { b"finished open\n" } else { b"finished\n" };
-    [first, &table_text(&search.best)].concat()
+    [first, &hoa::write(&search.best)].concat()
 }

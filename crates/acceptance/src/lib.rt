@@ -1,5 +1,7 @@
 // An acceptance as a mask: bit M says yes or no for the set of marks M, that is, whether a run which meets just these sets
 // infinitely often is accepting.
+#![tactic(auto)]
+
 ghost use Rattle.std.specs.Prelude.{◌≡◌};
 ghost use Rattle.acceptance.specs.Masks.{every_set, all_true, own_sets};
 

@@ -1,4 +1,6 @@
 // The automaton as a value, its limits, and the test that a value lies in "The automaton".
+#![tactic(auto)]
+
 ghost use Rattle.std.specs.Prelude.{◌≡◌, ◌↔◌, true};
 ghost use Rattle.automaton.specs.Tests.{counts_fit, fits, tables_fit};
 ghost use Rattle.automaton.specs.Value.{Valid, empty};
@@ -14,7 +16,7 @@ mod tables;
 // Transitions stand at `state * LETTERS + letter`, the bytes of name i from `i * NAME` on. A set of marks is a number:
 // bit i for the set i. The acceptance is a mask: bit M says whether a run that meets just the sets of M infinitely often is
 // accepting. Slots that are not in use are 0, so that equal automata are equal values.
-#[derive(Drop)]
+#[derive(Clone, Copy)]
 pub struct Automaton {
     pub states: usize,
     pub start: usize,

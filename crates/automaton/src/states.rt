@@ -2,9 +2,9 @@
 // type of its own.
 
 // A state of the reference: u, v, w; primed in the source.
-#[derive(Drop)]
+#[derive(Clone, Copy)]
 pub struct ReferenceState(pub usize);
 
 // A state of the candidate: q, p, t; unprimed in the source.
-#[derive(Drop)]
+#[derive(Clone, Copy)]
 pub struct CandidateState(pub usize);

@@ -1,5 +1,7 @@
 // Reads texts of automata again and again, for `bench/run`: standard input holds them in slots of equal length, the argument says how often. Prints how
 // many readings were accepted, and the sum of their states.
+#![tactic(auto)]
+
 use console_input::number;
 use console_numerals::Number;
 use console_places::part::first;
@@ -13,7 +15,7 @@ use std::num::wrapping_add_u64;
 // Bytes of a slot: a text, and line feeds behind it.
 const SLOT: usize = 4096;
 
-#[derive(Drop)]
+#[derive(Clone, Copy)]
 struct Tally {
     accepted: u64,
     states: u64,

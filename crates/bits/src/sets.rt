@@ -7,9 +7,6 @@ ghost use Rattle.bits.specs.Sets.{Lowest, single};
 // How many numbers a set can hold.
 const MEMBERS: usize = 16;
 
-// The set of all of them.
-pub const ALL: u16 = ((1usize << MEMBERS) - 1) as u16;
-
 // The lowest number of a set below `count`; `count` where there is none.
 pub fn lowest(set: u16, count: usize) -> usize
     ensures { Lowest set count result }

@@ -1,4 +1,6 @@
 // The numbers of the header: V variables and C clauses, counted and not listed.
+#![tactic(auto)]
+
 ghost use Rattle.std.specs.Prelude.{◌≡◌, ◌*◌, ◌≤◌, ◌<◌, length};
 ghost use Rattle.meaning.specs.BitSet.{bit, has};
 ghost use Rattle.clause_sizes.specs.Targets.{file};
@@ -18,7 +20,7 @@ use clause_sizes::{Sized, Sizes, Target, measure};
 use clause_variables::kept;
 use refusals::Refusal;
 
-#[derive(Drop)]
+#[derive(Clone, Copy)]
 pub enum Totals {
     // V, then C.
     Of(u64, u64),

@@ -5,7 +5,7 @@ ghost use Rattle.clause_indices.specs.Indices.{ExtentIfAny, ExtentOf};
 use clause_sizes::{Sizes, fitting};
 
 // How many positions groups 1, 2 and 3 have, and how many there are in all.
-#[derive(Drop)]
+#[derive(Clone, Copy)]
 pub struct Extent {
     pub first: usize,
     pub second: usize,

@@ -1,4 +1,6 @@
 // The indices of a clause; how many positions the groups have, and what groups 3 and 4 have in common.
+#![tactic(auto)]
+
 ghost use Rattle.std.specs.Prelude.{◌≡◌};
 ghost use Rattle.clause_indices.specs.Indices.{EntryIfAny};
 
@@ -9,7 +11,7 @@ pub mod extent;
 pub mod premise;
 
 // The indices of group 3, in its order. Group 4 has them with t = q and u the reference's step from v by l.
-#[derive(Drop)]
+#[derive(Clone, Copy)]
 pub struct Indices {
     pub q: CandidateState,
     pub p: CandidateState,

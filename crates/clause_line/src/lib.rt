@@ -1,4 +1,6 @@
 // The clause file as text, one line a call.
+#![tactic(auto)]
+
 ghost use Rattle.clause_line.specs.Line.{LineStepped};
 
 use automaton::Automaton;

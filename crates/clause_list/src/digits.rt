@@ -9,7 +9,7 @@ use clause_indices::Indices;
 use clause_sizes::Sizes;
 
 // The three sets of marks of a position, and what is left of it.
-#[derive(Drop)]
+#[derive(Clone, Copy)]
 pub struct Marking {
     pub i: usize,
     pub j: usize,
@@ -33,7 +33,7 @@ pub fn marking_at(z: Sizes, x: usize) -> Marking
 }
 
 // The reference's transition of a position, and what is left of it.
-#[derive(Drop)]
+#[derive(Clone, Copy)]
 pub struct Transition {
     pub v: ReferenceState,
     pub l: usize,

@@ -14,7 +14,7 @@ use clause_indices::extent::Extent;
 use clause_sizes::Sizes;
 
 // How many literals the clause has, 0 where there is none any more; and the position to go on from.
-#[derive(Drop)]
+#[derive(Clone, Copy)]
 pub struct Next {
     pub length: usize,
     pub position: usize,

@@ -1,4 +1,6 @@
 // Literals: a variable, or its negative.
+#![tactic(auto)]
+
 ghost use Rattle.std.specs.Prelude.{pos, neg_ℤ};
 ghost use Rattle.clause_literals.specs.Literals.{LiteralIfAny};
 

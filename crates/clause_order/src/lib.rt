@@ -1,4 +1,6 @@
 // The order of the positions of group 3 by blocks: over a block q, p, t and u stay.
+#![tactic(auto)]
+
 ghost use Rattle.clause_order.specs.Follows.{Follows};
 
 use automaton::states::ReferenceState;

@@ -12,7 +12,7 @@ use std::num::wrapping_add_usize;
 const MARKINGS: usize = 1 << Automaton::SETS;
 
 // A position by its indices and by its number.
-#[derive(Drop)]
+#[derive(Clone, Copy)]
 pub struct Place {
     pub indices: Indices,
     pub position: usize,

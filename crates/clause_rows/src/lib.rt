@@ -1,4 +1,6 @@
 // Between which reference states a clause file has path variables, as rows: row u is the set of the states that u has paths to.
+#![tactic(auto)]
+
 ghost use Rattle.std.specs.Prelude.{◌≡◌, length};
 ghost use Rattle.meaning.specs.Counting.{total};
 ghost use Rattle.clause_rows.specs.Rows.{everywhere, full_row, full_set, held, sums_before, rows_of};
@@ -7,7 +9,7 @@ use automaton::Automaton;
 use bits::sets::below;
 
 // The rows, how many states the rows before each hold, and how many all of them hold.
-#[derive(Drop)]
+#[derive(Clone, Copy)]
 pub struct Rows {
     pub sets: [u16; Automaton::STATES],
     pub before: [u8; Automaton::STATES],

@@ -1,4 +1,6 @@
 // What is named for a clause file, and its sizes, as the other functions carry them.
+#![tactic(auto)]
+
 ghost use Rattle.std.specs.Prelude.{◌≡◌, ◌↔◌, true, ◌≤◌};
 ghost use Rattle.automaton.specs.Value.{Valid};
 ghost use Rattle.clause_sizes.specs.Targets.{Dimensioned, every, listed};
@@ -14,7 +16,7 @@ use refusals::Refusal;
 
 // Which of the two clause lists: the first has path variables between any two reference states, the second only inside the
 // reference's strongly connected components.
-#[derive(Drop)]
+#[derive(Clone, Copy)]
 pub enum Listing {
     First,
     Second,
@@ -22,7 +24,7 @@ pub enum Listing {
 
 // What the caller names for a file, beside the reference: the candidate's states n, its acceptance sets m, its acceptance as a
 // mask, bit M for the set of marks M, and which list.
-#[derive(Drop)]
+#[derive(Clone, Copy)]
 pub struct Target {
     pub states: usize,
     pub sets: usize,
@@ -57,7 +59,7 @@ impl Target {
 }
 
 // Of the candidate or of the reference: its states, its acceptance sets, how many sets of marks there are, and its acceptance.
-#[derive(Drop)]
+#[derive(Clone, Copy)]
 pub struct Counts {
     pub states: usize,
     pub sets: usize,
@@ -67,7 +69,7 @@ pub struct Counts {
 
 // `steps` is the number of the last step variable, `marks` that of the last mark variable; `paths` tells between which reference
 // states the list has path variables.
-#[derive(Drop)]
+#[derive(Clone, Copy)]
 pub struct Sizes {
     pub candidate: Counts,
     pub reference: Counts,
@@ -79,14 +81,14 @@ pub struct Sizes {
 }
 
 // V, the number of the last variable, where there is a file.
-#[derive(Drop)]
+#[derive(Clone, Copy)]
 pub enum Sized {
     Of(usize),
     Refused(Refusal),
 }
 
 // The answer, and the sizes of the file beside it, since an enum holds no array; where there is no file they are all 0.
-#[derive(Drop)]
+#[derive(Clone, Copy)]
 pub struct Measurement {
     pub answer: Sized,
     pub sizes: Sizes,

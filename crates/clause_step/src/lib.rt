@@ -1,4 +1,6 @@
 // The clause file, handed out clause by clause.
+#![tactic(auto)]
+
 ghost use Rattle.std.specs.Prelude.{◌≡◌, ◌≤◌, length};
 ghost use Rattle.clause_sizes.specs.Measured.{Measured};
 ghost use Rattle.clause_sizes.specs.Sizes.{target_of};
@@ -18,7 +20,7 @@ pub const CLAUSE: usize = clause_indices::CLAUSE;
 // The position after the last clause of the largest file. A carried position lies in 0 to this one.
 pub const LAST: u64 = 8657059969;
 
-#[derive(Drop)]
+#[derive(Clone, Copy)]
 pub enum Answer {
     // So much is written at the start of the buffer.
     Written(usize),
@@ -28,7 +30,7 @@ pub enum Answer {
 }
 
 // The answer, and the position for the next call.
-#[derive(Drop)]
+#[derive(Clone, Copy)]
 pub struct Handed {
     pub answer: Answer,
     pub position: u64,

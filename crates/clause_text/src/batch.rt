@@ -20,7 +20,7 @@ use clause_step::CLAUSE;
 use clause_words::write_line;
 
 // Where the text ends, and the position to go on from.
-#[derive(Drop)]
+#[derive(Clone, Copy)]
 pub struct Filled {
     pub end: usize,
     pub position: usize,

@@ -1,4 +1,6 @@
 // The clause file as text, as many lines as a buffer holds.
+#![tactic(auto)]
+
 ghost use Rattle.std.specs.Prelude.{◌≤◌, length};
 ghost use Rattle.clause_sizes.specs.Measured.{Measured};
 ghost use Rattle.clause_sizes.specs.Sizes.{target_of};

@@ -11,7 +11,7 @@ use bits::sets::has;
 use clause_sizes::{Sizes, fitting};
 
 // A row: its set of states, how many paths lead to each, and the first path's number.
-#[derive(Drop)]
+#[derive(Clone, Copy)]
 pub struct FirstRow {
     pub set: u16,
     pub width: usize,

@@ -1,4 +1,6 @@
 // The numbers of the variables of a clause file, on all input.
+#![tactic(auto)]
+
 ghost use Rattle.encoding.specs.Variables.{step, mark, path};
 ghost use Rattle.clause_sizes.specs.Numbers.{NumberIfAny};
 ghost use Rattle.clause_variables.specs.FirstPaths.{FirstPaths};

@@ -20,7 +20,7 @@ pub fn row_set(z: Sizes, u: ReferenceState) -> u16
 }
 
 // A row: its set of states, how many it holds, and how many the rows before it hold.
-#[derive(Drop)]
+#[derive(Clone, Copy)]
 pub struct Row {
     pub set: u16,
     pub size: usize,

@@ -1,4 +1,6 @@
 // The text of clauses: their literals, and whole lines.
+#![tactic(auto)]
+
 ghost use Rattle.std.specs.Prelude.{◌≡◌, [], ◌∷◌, ◌+◌, ◌≤◌, nat_abs, length};
 ghost use Rattle.decimal.specs.Wrote.{Wrote};
 ghost use Rattle.clause_words.specs.Text.{literal_text, spaced_text};

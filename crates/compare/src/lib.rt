@@ -1,4 +1,6 @@
 // The comparison of two automata: the same, or the first lasso word that shows the difference.
+#![tactic(auto)]
+
 ghost use Rattle.std.specs.Prelude.{◌≡◌, length};
 ghost use Rattle.compare.specs.Compared.{Compared};
 ghost use Rattle.compare.specs.Searched.{Ready, Searched, answered};
@@ -10,7 +12,7 @@ use refusals::Refusal;
 
 mod verdicts;
 
-#[derive(Drop)]
+#[derive(Clone, Copy)]
 pub enum Comparison {
     Same,
     // Refusal 12 is the answer where the two differ.

@@ -6,7 +6,7 @@ ghost use Rattle.compare_shortest.specs.Choice.{Choosing, Room, Better};
 use crate::{closest, places};
 
 // A place, and the length of the word that leads there and of the shortest loop there, together.
-#[derive(Drop)]
+#[derive(Clone, Copy)]
 pub struct Choice {
     pub place: usize,
     pub total: usize,

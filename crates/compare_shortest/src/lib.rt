@@ -1,4 +1,6 @@
 // The shortest lasso word on which two automata, given by tables, differ.
+#![tactic(auto)]
+
 ghost use Rattle.std.specs.Prelude.{length};
 ghost use Rattle.compare_shortest.specs.Difference.{Fit, Shows};
 ghost use Rattle.compare_shortest.specs.Answer.{Within, Answer, Answered};
@@ -36,7 +38,7 @@ const MARKED: u16 = HITS as u16;
 const PLACES: usize = NODES + 2;
 
 // What is found: no difference, or a word whose prefix and loop have these lengths; or the tables are not those of two automata.
-#[derive(Drop)]
+#[derive(Clone, Copy)]
 pub enum Verdict {
     Same,
     Differ(usize, usize),

@@ -13,7 +13,7 @@ use crate::{HITS, MARKED, places};
 use automaton::Automaton;
 
 // Where a search stops: the first place of a hit, or `count` where there is none, and the number of places.
-#[derive(Drop)]
+#[derive(Clone, Copy)]
 pub struct Stop {
     pub hit: usize,
     pub count: usize,

@@ -1,4 +1,6 @@
 // The test that two tables and a start are those of an automaton within the bounds.
+#![tactic(auto)]
+
 ghost use Rattle.std.specs.Prelude.{◌≡◌, ◌↔◌, true};
 ghost use Rattle.compare_tables.specs.Tables.{Below, InRange};
 

@@ -1,4 +1,6 @@
 // Solver text as the programs get it, in pieces of 64 KiB, and what the decoder makes of it.
+#![tactic(auto)]
+
 ghost use Rattle.std.specs.Prelude.{◌≡◌, false};
 ghost use Rattle.refusals.specs.Refused.{code_of};
 ghost use Rattle.console_places.specs.Places.{within};
@@ -16,7 +18,7 @@ use solver_text::{Answer, Reader};
 
 // What was decoded. Where the text could not be read, it is not whole, and standard error has the reason. Of a text that was
 // refused, `place` is that of the refusal's offset.
-#[derive(Drop)]
+#[derive(Clone, Copy)]
 pub struct Told {
     pub whole: bool,
     pub decoded: Decoded,
@@ -65,7 +67,7 @@ fn refused_at(x: Refusal, place: Place, piece: &[u8]) -> Place
 }
 
 // The text so far.
-#[derive(Drop)]
+#[derive(Clone, Copy)]
 struct Heard {
     more: bool,
     whole: bool,

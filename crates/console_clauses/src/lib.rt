@@ -1,4 +1,6 @@
 // The clause file as the programs print it, batch after batch.
+#![tactic(auto)]
+
 ghost use Rattle.std.specs.Prelude.{◌≡◌, false, ◌≤◌, length as count};
 ghost use Rattle.automaton.specs.Value.{Valid};
 ghost use Rattle.clause_sizes.specs.Targets.{Proper};
@@ -19,7 +21,7 @@ use console_report::lines::LINE;
 use refusals::Refusal;
 
 // What was handed over to the output: so many bytes, whether it took the header's line, and whether they are a whole clause file.
-#[derive(Drop)]
+#[derive(Clone, Copy)]
 pub struct Printout {
     pub headed: bool,
     pub whole: bool,
@@ -93,7 +95,7 @@ fn print_clauses(reference: Automaton, target: Target, header: Printed) -> Print
 
 // What a batch answered: whether it said "ended", the position after it, and how many bytes were handed over. There is no more after the end, or where the output did not
 // take them.
-#[derive(Drop)]
+#[derive(Clone, Copy)]
 struct Next {
     more: bool,
     ended: bool,

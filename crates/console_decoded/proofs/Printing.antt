@@ -24,7 +24,7 @@ use Rattle.decode.specs.contracts.Answer.{enum as answer}
 use Rattle.console_report.specs.Lines.{refused_line, word_lines}
 use Rattle.console_print.specs.declared.Printed.{Printed}
 use Rattle.console_print.specs.Handed.{Hands}
-use Rattle.console_results.specs.Results.{HandsConverted}
+use Rattle.console_results.specs.Results.{HandsAutomaton}
 use Rattle.console_decoded.specs.declared.Output.{Output}
 use Rattle.console_decoded.specs.Printed.{unworded, Alone, HandsTable, HandsRefused, HandsAnswer}
 use Rattle.console_decoded.specs.Behind.{HandsBehind}
@@ -40,11 +40,11 @@ module _ {a : Automaton} {r : Output} where
   pub outside_handed : ¬ Valid a → Alone (refused_line Outside) r → HandsTable a r
   outside_handed n e = record { written = λ v. absurd (n v); outside = λ _. e }
 
-  pub text_handed : {w : Written} {k : ℕ} → Valid a → HandsConverted a w → w ≡ Text k → r ≡ unworded k → HandsTable a r
+  pub text_handed : {w : Written} {k : ℕ} → Valid a → HandsAutomaton a w → w ≡ Text k → r ≡ unworded k → HandsTable a r
   text_handed v h t e = record { written = λ _. e ∙ ap (λ w. unworded (size w)) (sym t ∙ h.written v); outside = λ n. absurd (n v) }
 
   -- a valid automaton is not turned down
-  pub never_refused : {w : Written} → Valid a → HandsConverted a w → tag_of (declared written) w ≡ 1 → HandsTable a r
+  pub never_refused : {w : Written} → Valid a → HandsAutomaton a w → tag_of (declared written) w ≡ 1 → HandsTable a r
   never_refused v h t = let z : ◌≡◌ {A = ℕ} 1 0 = sym t ∙ ap (tag_of (declared written)) (h.written v) in absurd (omega arith)
 
 -- ---- a refusal

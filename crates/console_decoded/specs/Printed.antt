@@ -8,7 +8,6 @@ use Rattle.refusals.specs.declared.Refusal.{Refusal}
 use Rattle.refusals.specs.declared.Refusal.TheVariants.{Outside, Differ}
 use Rattle.clause_sizes.specs.declared.Target.{Target}
 use Rattle.compare.specs.Compared.{prefix_room, loop_room}
-use Rattle.convert.specs.Converted.{converted}
 use Rattle.hoa_text.specs.Written.{text}
 use Rattle.decode.specs.declared.Answer.{Answer}
 use Rattle.decode.specs.declared.Answer.TheVariants.{Table, None, Unknown, Refused}
@@ -26,9 +25,9 @@ unworded k = record { answer = k; word = 0 }
 abbrev pub Alone : List ℕ → Output → Type 0
 Alone s r = r ≡ unworded (length s)
 
--- a table: the text of its conversion, or the line of 4 where it is none that HOA could give
+-- a table: its text, or the line of 4 where it is none that HOA could give
 pub record HandsTable (a : Automaton) (r : Output) : Type 0 where
-  pub written : Valid a → Alone (text (converted a)) r
+  pub written : Valid a → Alone (text a) r
   pub outside : ¬ Valid a → Alone (refused_line Outside) r
 
 -- 12: its line, and then the two lines of the word in the buffers, which are left out where the output did not take the first line

@@ -1,4 +1,6 @@
 // What the decoder answers, as the programs print it.
+#![tactic(auto)]
+
 ghost use Rattle.std.specs.Prelude.{◌≡◌};
 ghost use Rattle.console_report.specs.Lines.{refused_line};
 ghost use Rattle.console_decoded.specs.Printed.{unworded, Alone, HandsTable, HandsRefused, HandsDecoded, HandsInput};
@@ -10,14 +12,14 @@ use compare::Comparison;
 use console_lines::refuse;
 use console_places::Place;
 use console_print::{Printed, print};
-use console_results::{print_converted, print_word};
+use console_results::{print_automaton, print_word};
 use decode::{Answer, Decoded};
 use hoa_write::Written;
 use libc::STDIN_FILENO;
 use refusals::Refusal;
 
 // How many bytes were handed over to the output: those of the answer, and behind them those of the two lines of a word.
-#[derive(Drop)]
+#[derive(Clone, Copy)]
 pub struct Output {
     pub answer: usize,
     pub word: usize,
@@ -65,14 +67,14 @@ pub fn print_decoded(
     }
 }
 
-// The text of its conversion, or 4 where it is none that HOA could give. What is valid is not turned down.
+// Its text, or 4 where it is none that HOA could give. What is valid is not turned down.
 fn print_table(table: Automaton) -> Output
     ensures { HandsTable table result }
 {
     if !table.valid() {
         return print_line(Refusal::Outside, b"the automaton", Place::first());
     }
-    let written = print_converted(table);
+    let written = print_automaton(table);
     match written {
         Written::Text(length) => unworded(length),
         Written::Refused(_) => unworded(0),

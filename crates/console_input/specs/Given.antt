@@ -1,9 +1,9 @@
 -- DEFINITION: what the programs hold of a text or a word that was read into a lent buffer.
-use Rattle.std.specs.Prelude.{◌≡◌, Bool, true, false, List, ℕ, take}
+use Rattle.std.specs.Prelude.{◌≡◌, true, false, List, ℕ, take}
 use Rattle.automaton.specs.declared.Automaton.{Automaton}
 use Rattle.automaton.specs.Value.{empty}
 use Rattle.hoa_text.specs.Grammar.{Result, gives, refuses}
-use Rattle.hoa_text.specs.Reading.{read_stored, read}
+use Rattle.hoa_text.specs.Reading.{read}
 use Rattle.console_numerals.specs.declared.Number.TheVariants.{None}
 use Rattle.console_numerals.specs.Numbers.{number_of}
 use Rattle.console_input.specs.declared.Given.{Given}
@@ -18,14 +18,9 @@ abbrev pub given : Result Automaton → Given
 given (gives a) = record { accepted = true; automaton = a }
 given (refuses x) = nothing
 
--- as a stored reference, or as any other text
-abbrev pub read_as : Bool → List ℕ → Result Automaton
-read_as true = read_stored
-read_as false = read
-
--- what the text in the first bytes of the buffer gives, as it is read; nothing only where the text could not be read
-pub record FromText (reads : List ℕ → Result Automaton) (buffer : List ℕ) (r : Held) : Type 0 where
-  pub text : r.got.whole ≡ true → r.given ≡ given (reads (take r.got.length buffer))
+-- what the text in the first bytes of the buffer gives; nothing only where the text could not be read
+pub record FromText (buffer : List ℕ) (r : Held) : Type 0 where
+  pub text : r.got.whole ≡ true → r.given ≡ given (read (take r.got.length buffer))
   pub unread : r.got.whole ≡ false → r.given ≡ nothing
 
 -- the number that the word in its first bytes spells; none where no word could be read

@@ -1,9 +1,10 @@
 // Numbers among the arguments, and automata, as the programs read them.
+#![tactic(auto)]
+
 ghost use Rattle.std.specs.Prelude.{◌≡◌, length, take};
-ghost use Rattle.hoa_text.specs.Reading.{read_stored, read};
-ghost use Rattle.hoa_read.specs.Told.{told};
+ghost use Rattle.hoa_text.specs.Reading.{read};
 ghost use Rattle.console_read.specs.Got.{InputRead, FileRead, ArgumentRead};
-ghost use Rattle.console_input.specs.Given.{nothing, given, read_as, FromText, FromWord};
+ghost use Rattle.console_input.specs.Given.{nothing, given, FromText, FromWord};
 
 use automaton::Automaton;
 use console_lines::refuse;
@@ -11,28 +12,28 @@ use console_numerals::{Number, parse};
 use console_places::of;
 use console_places::part::first;
 use console_read::{Got, argument, read_file, read_input};
-use hoa_read::{Answer, Reading, read, read_stored};
+use hoa_read::Answer;
 use refusals::Refusal;
 
 // One byte more than a text may have, so that a longer one is seen.
 pub const TEXT: usize = hoa_read::TEXT + 1;
 
 // An automaton that was accepted. Where it was not, standard error has the reason.
-#[derive(Drop)]
+#[derive(Clone, Copy)]
 pub struct Given {
     pub accepted: bool,
     pub automaton: Automaton,
 }
 
 // How much of a text was read, and the automaton in it.
-#[derive(Drop)]
+#[derive(Clone, Copy)]
 pub struct Held {
     pub got: Got,
     pub given: Given,
 }
 
 // How much of a word was read, and the number that it spells.
-#[derive(Drop)]
+#[derive(Clone, Copy)]
 pub struct Numbered {
     pub got: Got,
     pub number: Number,
@@ -41,31 +42,16 @@ pub struct Numbered {
 // The automaton on standard input, whose text is read into the buffer.
 pub fn from_input(text: &mut [u8]) -> Held
     ensures read { InputRead (length text.new) 0 result.got }
-    ensures is { FromText read text.new result }
-{
-    input(text, false)
-}
-
-// The stored reference on standard input, which may have unreachable states.
-pub fn stored_from_input(text: &mut [u8]) -> Held
-    ensures read { InputRead (length text.new) 0 result.got }
-    ensures is { FromText read_stored text.new result }
-{
-    input(text, true)
-}
-
-fn input(text: &mut [u8], stored: bool) -> Held
-    ensures read { InputRead (length text.new) 0 result.got }
-    ensures is { FromText (read_as stored) text.new result }
+    ensures is { FromText text.new result }
 {
     let got = read_input(text);
-    judge_read(b"standard input", text, got, stored)
+    judge_read(b"standard input", text, got)
 }
 
 // The automaton in the file that an argument names.
 pub fn from_argument(i: usize, text: &mut [u8]) -> Held
     ensures read { FileRead (length text.new) result.got }
-    ensures is { FromText read text.new result }
+    ensures is { FromText text.new result }
 {
     let mut path = io::buffer();
     let got = argument(i, &mut path);
@@ -83,16 +69,16 @@ pub fn from_argument(i: usize, text: &mut [u8]) -> Held
 
 fn from_file(path: &[u8], text: &mut [u8]) -> Held
     ensures read { FileRead (length text.new) result.got }
-    ensures is { FromText read text.new result }
+    ensures is { FromText text.new result }
 {
     let got = read_file(path, text);
-    judge_read(path, text, got, false)
+    judge_read(path, text, got)
 }
 
 // The automaton in what was read, if all of it was.
-fn judge_read(name: &[u8], text: &[u8], got: Got, stored: bool) -> Held
+fn judge_read(name: &[u8], text: &[u8], got: Got) -> Held
     ensures got { result.got ≡ got }
-    ensures is { FromText (read_as stored) text.now result }
+    ensures is { FromText text.now result }
 {
     if !got.whole {
         return Held { got, given: none() };
@@ -100,7 +86,7 @@ fn judge_read(name: &[u8], text: &[u8], got: Got, stored: bool) -> Held
     let length = got.length;
     Held {
         got,
-        given: judge_as(name, text, length, stored),
+        given: judge(name, text, length),
     }
 }
 
@@ -108,14 +94,8 @@ fn judge_read(name: &[u8], text: &[u8], got: Got, stored: bool) -> Held
 pub fn judge(name: &[u8], text: &[u8], length: usize) -> Given
     ensures { result ≡ given (read (take length text.now)) }
 {
-    judge_as(name, text, length, false)
-}
-
-fn judge_as(name: &[u8], text: &[u8], length: usize, stored: bool) -> Given
-    ensures { result ≡ given (read_as stored (take length text.now)) }
-{
     let text = first(text, length);
-    let reading = reading_of(text, stored);
+    let reading = hoa_read::read(text);
     let answer = reading.answer;
     let automaton = reading.automaton;
     match answer {
@@ -125,15 +105,6 @@ fn judge_as(name: &[u8], text: &[u8], length: usize, stored: bool) -> Given
         },
         Answer::Refused(x) => turned_down(x, name, text),
     }
-}
-
-fn reading_of(text: &[u8], stored: bool) -> Reading
-    ensures { result ≡ told (read_as stored text.now) }
-{
-    if stored {
-        return read_stored(text);
-    }
-    read(text)
 }
 
 fn turned_down(x: Refusal, name: &[u8], text: &[u8]) -> Given

@@ -1,4 +1,6 @@
 // Lines as the programs print them, and refusals: a line, and a sentence.
+#![tactic(auto)]
+
 ghost use Rattle.std.specs.Prelude.{◌≡◌, take, length as count};
 ghost use Rattle.console_sentences.specs.Sentences.{sentence as sentenceOf};
 ghost use Rattle.console_print.specs.Handed.{Hands};
@@ -12,7 +14,7 @@ use console_sentences::{SENTENCE, sentence};
 use refusals::{Code, Refusal};
 
 // The refusal that was told, its line on standard output, and the bytes of its sentence on standard error.
-#[derive(Drop)]
+#[derive(Clone, Copy)]
 pub struct TurnedDown {
     pub code: Code,
     pub line: Printed,

@@ -1,9 +1,11 @@
 // Numbers as they are given to a program: digits, and as many bits as it has.
+#![tactic(auto)]
+
 ghost use Rattle.std.specs.Prelude.{◌≡◌, ◌+◌, ◌-◌, ◌*◌, ◌^◌, ltb};
 ghost use Rattle.hoa_text.specs.Tokens.{digit};
 ghost use Rattle.console_numerals.specs.Numbers.{number_of};
 
-#[derive(Drop)]
+#[derive(Clone, Copy)]
 pub enum Number {
     Of(u64),
     // No digits, another byte among them, or more than 64 bits.

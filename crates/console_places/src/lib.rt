@@ -1,4 +1,6 @@
 // Places in a text: offset, line and column, and the byte that stands there.
+#![tactic(auto)]
+
 ghost use Rattle.std.specs.Prelude.{◌≡◌, ◌-◌, ◌≤◌};
 ghost use Rattle.console_places.specs.Places.{first, next, after, byte_at, seen_at, more, back, within};
 
@@ -9,7 +11,7 @@ pub mod part;
 // No byte: the text ends there, or what stands there is not known.
 pub const UNSEEN: usize = 256;
 
-#[derive(Drop)]
+#[derive(Clone, Copy)]
 pub struct Place {
     pub offset: usize,
     pub line: usize,

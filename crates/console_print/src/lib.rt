@@ -1,4 +1,6 @@
 // Bytes as the programs print them, on standard output and standard error. Each function tells how many it handed over.
+#![tactic(auto)]
+
 ghost use Rattle.std.specs.Prelude.{◌≡◌, take, length as count};
 ghost use Rattle.console_print.specs.Handed.{Hands, usage_line};
 
@@ -6,7 +8,7 @@ use console_places::part::first;
 use libc::{STDERR_FILENO, STDOUT_FILENO};
 
 // How many bytes were handed over, and whether the output took them. Where it did not, standard error has the reason.
-#[derive(Drop)]
+#[derive(Clone, Copy)]
 pub struct Printed {
     pub written: bool,
     pub length: usize,

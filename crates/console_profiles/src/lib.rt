@@ -1,4 +1,6 @@
 // The words that name a profile: what is named for a clause file beside the candidate's numbers of states and sets.
+#![tactic(auto)]
+
 ghost use Rattle.std.specs.Prelude.{◌≡◌};
 ghost use Rattle.console_profiles.specs.Profiles.{listing_of, as_mask, mask_of, named, profile_of};
 
@@ -8,7 +10,7 @@ use console_numerals::{Number, parse};
 use hoa_words::same;
 
 // A mask as it is given to a program.
-#[derive(Drop)]
+#[derive(Clone, Copy)]
 pub enum Mask {
     Of(u16),
     // A yes past the sets of marks of any automaton.
@@ -17,7 +19,7 @@ pub enum Mask {
     None,
 }
 
-#[derive(Drop)]
+#[derive(Clone, Copy)]
 pub enum Profile {
     Of(Target),
     Past,

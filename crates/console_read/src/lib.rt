@@ -1,12 +1,14 @@
 // Bytes as the programs read them: arguments, files, standard input. No contract can say which bytes these have; how much was read is told by what the system's
 // calls answered.
+#![tactic(auto)]
+
 ghost use Rattle.std.specs.Prelude.{◌≡◌, length};
 ghost use Rattle.console_read.specs.Got.{cut, ReadOnce, InputRead, FileRead, ArgumentRead};
 
 use libc::STDIN_FILENO;
 
 // How much was read. Where it is not whole, standard error has the reason.
-#[derive(Drop)]
+#[derive(Clone, Copy)]
 pub struct Got {
     pub whole: bool,
     pub length: usize,

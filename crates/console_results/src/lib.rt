@@ -1,8 +1,10 @@
 // Results as the programs print them: automata, and words that show a difference.
+#![tactic(auto)]
+
 ghost use Rattle.std.specs.Prelude.{take};
 ghost use Rattle.console_report.specs.Lines.{word_lines};
 ghost use Rattle.console_print.specs.Handed.{Hands};
-ghost use Rattle.console_results.specs.Results.{HandsAutomaton, HandsConverted};
+ghost use Rattle.console_results.specs.Results.{HandsAutomaton};
 
 use automaton::Automaton;
 use compare::Comparison;
@@ -10,7 +12,6 @@ use console_lines::refuse;
 use console_places::Place;
 use console_print::{Printed, print};
 use console_report::lasso::{WORD, word_lines};
-use convert::convert;
 use hoa_write::Written;
 
 // Prints an automaton as HOA text, or its refusal.
@@ -29,14 +30,6 @@ pub fn print_automaton(a: Automaton) -> Written
             Written::Refused(x)
         }
     }
-}
-
-// Prints an automaton without its unreachable states, or its refusal. A value that is refused gives the empty automaton, which is refused likewise.
-pub fn print_converted(a: Automaton) -> Written
-    ensures { HandsConverted a result }
-{
-    let conversion = convert(a);
-    print_automaton(conversion.automaton)
 }
 
 // Prints the two lines of a lasso word, which stands in two buffers.

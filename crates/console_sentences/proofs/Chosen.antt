@@ -9,7 +9,7 @@ use borrow.Author.Tests.{leb-true}
 use lib.Dec.{eqb, leb}
 use Rattle.refusals.specs.declared.Code.{Code}
 use Rattle.refusals.specs.declared.Refusal.{Refusal}
-use Rattle.refusals.specs.declared.Refusal.TheVariants.{Form, Size, Item, OtherAcceptance, Undeclared, Outside, Body, SecondEdge, NoEdge, Dimensions, SolverForm, Literal, NoStep, Differ, Short, Propositions, Unreachable}
+use Rattle.refusals.specs.declared.Refusal.TheVariants.{Form, Size, Item, OtherAcceptance, Undeclared, Outside, Body, SecondEdge, NoEdge, Dimensions, SolverForm, Literal, NoStep, Differ, Short, Propositions}
 use Rattle.refusals.specs.Refused.{code_of}
 use Rattle.automaton.specs.Bytes.{bytes}
 use Rattle.decimal.specs.Wrote.{Wrote}
@@ -31,7 +31,7 @@ patterns =
     (pattern Outside (seen 0) ∷ pattern (Form 0) (seen 0) ∷ pattern (Size 0) (seen 0) ∷ pattern (Item 1) (seen 0) ∷ pattern (Undeclared 1) (seen 0)
     ∷ pattern (Body 0 0) (seen 0) ∷ pattern (SecondEdge 0 0) (seen 0) ∷ pattern (NoEdge 0 0) (seen 0) ∷ pattern (Dimensions 0 0) (seen 0)
     ∷ pattern (SolverForm 0) (seen 0) ∷ pattern (Literal 0) (seen 0) ∷ pattern (NoStep 0 0) (seen 0) ∷ pattern (Differ 0 0) (seen 0)
-    ∷ pattern (Short 0 0) (seen 0) ∷ pattern (Propositions 0 0) (seen 0) ∷ pattern (Unreachable 0) (seen 0)
+    ∷ pattern (Short 0 0) (seen 0) ∷ pattern (Propositions 0 0) (seen 0)
     ∷ pattern (Form 0) (seen 256) ∷ pattern (Size 65536) (seen 0) ∷ pattern (Size 0) (seen 48) ∷ pattern (Size 0) (seen 34)
     ∷ pattern (Item 1) (seen 45) ∷ pattern (Item 1) (seen 34) ∷ pattern OtherAcceptance (seen 0) ∷ pattern (Body 0 0) (seen 256) ∷ pattern (Form 0) (seen 48)
     ∷ pattern (Form 0) (seen 91) ∷ [])
@@ -74,7 +74,6 @@ chosen (NoStep q l) p = there refl refl
 chosen (Differ x y) p = there refl refl
 chosen (Short needed given) p = there refl refl
 chosen (Propositions k j) p = there refl refl
-chosen (Unreachable q) p = there refl refl
 
 within : {k j m n : ℕ} → k ≡ j → j ≤ m → n ≡ m → k ≤ n
 within e h g = omega arith

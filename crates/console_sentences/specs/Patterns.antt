@@ -6,13 +6,13 @@ use Rattle.refusals.specs.declared.Code.{Code}
 -- ---- the number of the line, where b stands at the place
 
 abbrev pub form_line : ℕ → ℕ
-form_line b = cond (eqb b 256) 16 (cond (leb 48 b && leb b 57) 24 (cond (eqb b 91) 25 1))
+form_line b = cond (eqb b 256) 15 (cond (leb 48 b && leb b 57) 23 (cond (eqb b 91) 24 1))
 
 abbrev pub size_line : ℕ → ℕ → ℕ
-size_line o b = cond (eqb o 65536) 17 (cond (leb 48 b && leb b 57) 18 (cond (eqb b 34) 19 2))
+size_line o b = cond (eqb o 65536) 16 (cond (leb 48 b && leb b 57) 17 (cond (eqb b 34) 18 2))
 
 abbrev pub item_line : ℕ → ℕ → ℕ
-item_line o b = cond (eqb o 0) 22 (cond (eqb b 45) 20 (cond (eqb b 34) 21 3))
+item_line o b = cond (eqb o 0) 21 (cond (eqb b 45) 19 (cond (eqb b 34) 20 3))
 
 abbrev pub line_of : Code → ℕ → ℕ
 line_of c b =
@@ -20,7 +20,7 @@ line_of c b =
     (cond (eqb c.number 2) (size_line c.first b)
     (cond (eqb c.number 3) (item_line c.first b)
     (cond (eqb c.number 4) (cond (eqb c.first 0) 0 4)
-    (cond (eqb c.number 5) (cond (eqb b 256) 23 5) c.number))))
+    (cond (eqb c.number 5) (cond (eqb b 256) 22 5) c.number))))
 
 -- ---- lines
 

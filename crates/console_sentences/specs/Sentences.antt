@@ -4,7 +4,7 @@ use Prim.Native.Char.{Char, code}
 use Prim.Native.String.{String}
 use Rattle.refusals.specs.declared.Code.{Code}
 use Rattle.refusals.specs.declared.Refusal.{Refusal}
-use Rattle.refusals.specs.declared.Refusal.TheVariants.{Form, Size, Item, OtherAcceptance, Undeclared, Outside, Body, SecondEdge, NoEdge, Dimensions, SolverForm, Literal, NoStep, Differ, Short, Propositions, Unreachable}
+use Rattle.refusals.specs.declared.Refusal.TheVariants.{Form, Size, Item, OtherAcceptance, Undeclared, Outside, Body, SecondEdge, NoEdge, Dimensions, SolverForm, Literal, NoStep, Differ, Short, Propositions}
 use Rattle.refusals.specs.Refused.{code_of}
 use Rattle.decimal.specs.Decimal.{decimal}
 use Rattle.automaton.specs.Bytes.{bytes}
@@ -75,7 +75,6 @@ pattern (NoStep q l) p = "no step is true for state # and letter $.\n"
 pattern (Differ x y) p = "the tables differ on a word with a prefix of # and a loop of $ letters.\n"
 pattern (Short needed given) p = "a buffer needs # places and has $.\n"
 pattern (Propositions k j) p = "one automaton has # propositions, the other $.\n"
-pattern (Unreachable q) p = "state # is not reachable from the start; hoa_convert leaves such states out.\n"
 
 abbrev pub sentence : Refusal → Place → List ℕ
 sentence x p = filled (code_of x) p (bytes (pattern x p))

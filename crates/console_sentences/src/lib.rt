@@ -1,4 +1,6 @@
 // Why something was turned down, in words.
+#![tactic(auto)]
+
 ghost use Rattle.std.specs.Prelude.{◌≡◌, cond, ◌≤◌, eqb, length, drop};
 ghost use Rattle.decimal.specs.Wrote.{Wrote, WroteIfRoom};
 ghost use Rattle.console_sentences.specs.Sentences.{sentence, shown, filled};

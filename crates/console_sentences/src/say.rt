@@ -1,6 +1,6 @@
 // The patterns of the sentences, one to a line. Their marks stand for numbers: `@` for the line of a place and `~` for its column, `#` and `$`
-// for the two values of a refusal. Lines 1 to 15 have the refusals' numbers.
-pub const PATTERNS: [u8; 1618] = *b"\
+// for the two values of a refusal. Lines 1 to 14 have document 01's numbers.
+pub const PATTERNS: [u8; 1541] = *b"\
     the value lies outside the automata that are allowed.\n\
     line @, column ~: the HOA text cannot go on like this.\n\
     line @, column ~: the signs ! and ( nest more than 32 deep.\n\
@@ -16,7 +16,6 @@ pub const PATTERNS: [u8; 1618] = *b"\
     the tables differ on a word with a prefix of # and a loop of $ letters.\n\
     a buffer needs # places and has $.\n\
     one automaton has # propositions, the other $.\n\
-    state # is not reachable from the start; hoa_convert leaves such states out.\n\
     line @, column ~: the HOA text ends too soon.\n\
     line @, column ~: the HOA text has more than 65,536 bytes.\n\
     line @, column ~: a count outside its limits (1 to 16 states, at most 4 propositions, at most 4 sets).\n\
@@ -31,22 +30,22 @@ pub const PATTERNS: [u8; 1618] = *b"\
 // The other lines: values that were handed over, and the causes that what stands at a place tells.
 pub const OUTSIDE: usize = 0;
 
-pub const TOO_SOON: usize = 16;
+pub const TOO_SOON: usize = 15;
 
-pub const TOO_LONG: usize = 17;
+pub const TOO_LONG: usize = 16;
 
-pub const COUNT: usize = 18;
+pub const COUNT: usize = 17;
 
-pub const NAME: usize = 19;
+pub const NAME: usize = 18;
 
-pub const MISSING: usize = 20;
+pub const MISSING: usize = 19;
 
-pub const ALIKE: usize = 21;
+pub const ALIKE: usize = 20;
 
-pub const OTHER_ACCEPTANCE: usize = 22;
+pub const OTHER_ACCEPTANCE: usize = 21;
 
-pub const NO_BODY: usize = 23;
+pub const NO_BODY: usize = 22;
 
-pub const NUMBER: usize = 24;
+pub const NUMBER: usize = 23;
 
-pub const LABEL: usize = 25;
+pub const LABEL: usize = 24;

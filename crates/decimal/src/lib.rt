@@ -1,4 +1,6 @@
 // Decimal numbers, written into a lent buffer. Digits are made by subtracting powers of ten: nothing here divides.
+#![tactic(auto)]
+
 ghost use Rattle.std.specs.Prelude.{◌≡◌, ◌+◌, ◌*◌, ◌^◌, ◌≤◌, ◌<◌, min};
 ghost use Rattle.decimal.specs.Decimal.{decimal, digits, places};
 ghost use Rattle.decimal.specs.Spelling.{Fits, Spells};
@@ -63,7 +65,7 @@ fn power_of_ten(k: usize) -> u64
 }
 
 // Where the writing of a number has come to: what is left of it, and the place of the next digit.
-#[derive(Drop)]
+#[derive(Clone, Copy)]
 struct Rest {
     number: u64,
     at: usize,
@@ -125,7 +127,7 @@ fn last_digit(rest: Rest, dst: &mut [u8]) -> usize
     at + 1
 }
 
-#[derive(Drop)]
+#[derive(Clone, Copy)]
 struct Leading {
     digit: u8,
     rest: u64,

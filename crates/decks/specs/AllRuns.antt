@@ -9,7 +9,6 @@ use Rattle.meaning.specs.Agreement.{Agree}
 use Rattle.meaning.specs.BitSet.{set_of}
 use Rattle.meaning.specs.ClosedLoop.{CyclesAgree}
 use Rattle.meaning.specs.CycleLemma.{cycles→agree}
-use Rattle.meaning.specs.Components.{reaches}
 use Rattle.automaton.specs.declared.Automaton.{Automaton}
 use Rattle.refusals.specs.declared.Refusal.TheVariants.{Literal, NoStep}
 use Rattle.refusals.specs.Refused.{row}
@@ -30,8 +29,8 @@ use Rattle.hoa_text.specs.Grammar as grammar
 use Rattle.hoa_text.specs.Formulas.{deepest}
 use Rattle.hoa_text.specs.Header.{item_read}
 use Rattle.hoa_text.specs.Body.{body_read}
-use Rattle.hoa_text.specs.Reading.{read_stored, read}
-use Rattle.hoa_text.specs.Accepted.{accepted}
+use Rattle.hoa_text.specs.Reading.{read}
+use Rattle.hoa_text.specs.Accepted.{accepted_valid}
 use Rattle.decks.specs.Words as words
 use Rattle.decks.specs.Words.{Counts, Stating, DecodedAs, DecoderRefuses, SolverTextRefused}
 use Rattle.decks.specs.Solver.{by_assignment, text_refused, stating}
@@ -51,7 +50,7 @@ all_runs = record {
 }
 
 pub all_runs_read : read (bytes "HOA: v1 States: 1 Start: 0 Acceptance: 0 t --BODY-- State: 0 [t] 0 --END--") ≡ grammar.gives all_runs
-unfolding read read_stored reaches item_read body_read deepest set_of
+unfolding read item_read body_read deepest set_of
 all_runs_read = refl
 
 pub all_runs_counts : Counts all_runs (every 1 0) 2 4
@@ -61,7 +60,7 @@ all_runs_counts = record { last_variable_lem = refl; count = refl }
 -- ---- solver texts
 
 valid : Valid all_runs
-valid = (accepted _ all_runs_read).valid
+valid = accepted_valid _ all_runs_read
 
 sizes : Proper (every 1 0)
 sizes = every_proper (record { n_some = omega arith; n_le = omega arith; m_le = omega arith })

@@ -7,7 +7,6 @@ use Rattle.std.proofs.Math.Arith.{lt-one}
 use Rattle.meaning.specs.BitSet.{has, set_of}
 use Rattle.meaning.specs.ClosedLoop.{CyclesAgree}
 use Rattle.meaning.specs.CycleLemma.{agree→cycles}
-use Rattle.meaning.specs.Components.{reaches}
 use Rattle.automaton.specs.View.{view}
 use Rattle.automaton.specs.ViewLaws.{view_formed}
 use Rattle.encoding.specs.Clauses.{each, only, not_marks, totality, initial, successor, extension, closure, exactly_one, group₁, group₂, group₃, group₄, file as task-file, decoded}
@@ -18,8 +17,8 @@ use Rattle.hoa_text.specs.Grammar.{gives}
 use Rattle.hoa_text.specs.Formulas.{deepest}
 use Rattle.hoa_text.specs.Header.{item_read}
 use Rattle.hoa_text.specs.Body.{body_read}
-use Rattle.hoa_text.specs.Reading.{read_stored, read}
-use Rattle.hoa_text.specs.Accepted.{accepted}
+use Rattle.hoa_text.specs.Reading.{read}
+use Rattle.hoa_text.specs.Accepted.{accepted_valid}
 use Rattle.hoa_text.specs.Examples.{both_for_ever}
 use Rattle.decks.specs.Words.{Counts, Satisfiable}
 use Rattle.decks.specs.Tested.{tested_satisfies}
@@ -28,7 +27,7 @@ pub both_read : read
     (bytes "HOA: v1 States: 1 Start: 0 AP: 2 \"a\" \"b\" Acceptance: 2 Inf(0)&Inf(1) "
     ++ bytes "--BODY-- State: 0 [!0&!1] 0 [0&!1] 0 {0} [!0&1] 0 {1} [0&1] 0 {0 1} --END--")
     ≡ gives both_for_ever
-unfolding read read_stored reaches item_read body_read deepest set_of
+unfolding read item_read body_read deepest set_of
 both_read = refl
 
 pub counts_one_one : Counts both_for_ever (every 1 1) 16 103
@@ -71,7 +70,7 @@ pub none_one_one : ¬ Satisfiable both_for_ever (every 1 1)
 unfolding CyclesAgree set_of
 none_one_one (ν, s) =
     let C = decoded (task both_for_ever (every 1 1)) (numbers both_for_ever (every 1 1)) ν in
-    let F = view_formed (accepted _ both_read).valid in
+    let F = view_formed (accepted_valid _ both_read) in
     let (e, k) = (named_encodes (view both_for_ever) (named (every 1 1)) F (omega arith)).sound ν s in
     let c = agree→cycles (record { formed_A = e.candidate.formed; formed_B = F; same_letters = refl }) e.agrees in
     let to-0 : (l : ℕ) → l < 4 → C.step 0 l ≡ 0 = λ l h. lt-one (e.candidate.formed.step_lt 0 l (omega arith) h) in

@@ -2,7 +2,6 @@
 use Rattle.std.specs.Prelude.{◌≡◌, refl, ◌++◌, ◌≤◌}
 use Rattle.std.proofs.Math.Option.{none}
 use Rattle.meaning.specs.BitSet.{set_of}
-use Rattle.meaning.specs.Components.{reaches}
 use Rattle.automaton.specs.declared.Automaton.{Automaton}
 use Rattle.refusals.specs.declared.Refusal.TheVariants.{SecondEdge, NoEdge}
 use Rattle.refusals.specs.Refused.{row}
@@ -15,7 +14,7 @@ use Rattle.clause_sizes.specs.Targets.{every, Proper, last, task, numbers, file}
 use Rattle.hoa_text.specs.Formulas.{deepest}
 use Rattle.hoa_text.specs.Header.{item_read}
 use Rattle.hoa_text.specs.Body.{body_read}
-use Rattle.hoa_text.specs.Reading.{read_stored, read}
+use Rattle.hoa_text.specs.Reading.{read}
 use Rattle.hoa_text.specs.Examples.{one_state, both_for_ever}
 use Rattle.decks.specs.Words.{ReadAs, HoaTextRefused, Counts, Satisfiable, Prints, Stating, DecodedAs, DecoderRefuses, SolverTextRefused}
 use Rattle.decks.specs.First.{first_read, first_prints, first_none}
@@ -83,7 +82,7 @@ pub record KnownDecks : Type 0 where
 -- ---- the proof
 
 pub known_decks : KnownDecks
-unfolding read read_stored reaches item_read body_read deepest set_of
+unfolding read item_read body_read deepest set_of
 known_decks = record {
   first_deck = (one_state, first_read, record { prints = first_prints; unsatisfiable = first_none });
   all_runs = (

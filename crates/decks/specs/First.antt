@@ -4,7 +4,6 @@ use Rattle.std.proofs.Common.{ap₂, ◌∙◌, arith}
 use Rattle.std.proofs.Math.Bool.{xor}
 use mathlib.Core.List.Memᴰ
 use Rattle.meaning.specs.BitSet.{set_of}
-use Rattle.meaning.specs.Components.{reaches}
 use Rattle.automaton.specs.declared.Automaton.{Automaton}
 use Rattle.automaton.specs.Value.{Valid}
 use Rattle.encoding.specs.Clauses.{each, only, not_marks, totality, initial, successor, extension, closure, exactly_one, group₁, group₂, group₃, group₄, file as task-file}
@@ -24,8 +23,8 @@ use Rattle.hoa_text.specs.Grammar.{gives}
 use Rattle.hoa_text.specs.Formulas.{deepest}
 use Rattle.hoa_text.specs.Header.{item_read}
 use Rattle.hoa_text.specs.Body.{body_read}
-use Rattle.hoa_text.specs.Reading.{read_stored, read}
-use Rattle.hoa_text.specs.Accepted.{accepted}
+use Rattle.hoa_text.specs.Reading.{read}
+use Rattle.hoa_text.specs.Accepted.{accepted_valid}
 use Rattle.hoa_text.specs.Examples.{one_state}
 use Rattle.console_report.specs.Lines.{header_line}
 use Rattle.decks.specs.Words.{Satisfiable, header_text, Prints}
@@ -50,12 +49,12 @@ module _ {a : Automaton} {τ : Target} (v : Valid a) (d : Proper τ) where
 -- ---- the deck
 
 pub first_read : read (bytes "HOA: v1 States: 1 Start: 0 Acceptance: 1 Inf(0) --BODY-- State: 0 [t] 0 --END--") ≡ gives one_state
-unfolding read read_stored reaches item_read body_read deepest set_of
+unfolding read item_read body_read deepest set_of
 first_read = refl
 
 pub first_prints : Prints one_state (every 1 0) (bytes "p cnf 3 6\n1 0\n2 0\n-2 -1 2 0\n-2 -1 2 0\n-3 -1 3 0\n-2 -1 0\n")
 unfolding each only set_of not_marks totality initial successor extension closure exactly_one group₁ group₂ group₃ group₄ task-file xor decimal
-first_prints = prints (accepted _ first_read).valid (every_proper (record { n_some = omega arith; n_le = omega arith; m_le = omega arith })) refl
+first_prints = prints (accepted_valid _ first_read) (every_proper (record { n_some = omega arith; n_le = omega arith; m_le = omega arith })) refl
 
 -- the clauses `1`, `2` and `-2 -1` cannot hold together
 pub first_none : ¬ Satisfiable one_state (every 1 0)

@@ -13,7 +13,7 @@ use clause_variables::{mark_variable, step_variable};
 use solver_text::Reader;
 
 // The transition of a state and a letter; `found` is false where no step is true.
-#[derive(Drop)]
+#[derive(Clone, Copy)]
 pub struct Cell {
     pub found: bool,
     pub destination: u8,

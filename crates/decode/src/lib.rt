@@ -1,4 +1,6 @@
 // The decoder: from solver text that was read to the table that it describes.
+#![tactic(auto)]
+
 ghost use Rattle.std.specs.Prelude.{◌≡◌};
 ghost use Rattle.automaton.specs.Value.{Valid};
 ghost use Rattle.compare.specs.Compared.{Room};
@@ -18,7 +20,7 @@ use solver_text::Reader;
 
 mod cells;
 
-#[derive(Drop)]
+#[derive(Clone, Copy)]
 pub enum Answer {
     // The verdict is SATISFIABLE, and the table that was decoded agrees with the reference.
     Table,
@@ -30,7 +32,7 @@ pub enum Answer {
 }
 
 // The answer, and the table, which is empty unless the answer is that there is one.
-#[derive(Drop)]
+#[derive(Clone, Copy)]
 pub struct Decoded {
     pub answer: Answer,
     pub table: Automaton,

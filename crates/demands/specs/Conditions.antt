@@ -1,10 +1,9 @@
 -- DEFINITIONS: what each public function asks of a call, in document 01's "Order: 13 (prefix before loop), 4 for handed values, 8, then reading left to
--- right, then 11, 14, 12", with what document 02 puts "after 7" and "after 8", and what its answers return: a refusal's number and two values, or none.
+-- right, then 11, 14, 12", with what document 02 puts "after 8", and what its answers return: a refusal's number and two values, or none.
 use Rattle.std.specs.Prelude.{◌≡◌, ◌≢◌, false, List, [], ◌∷◌, ◌++◌, ℕ, ◌≤◌, length, drop}
 use Rattle.std.proofs.Math.Option.{Option, none, some}
 use Rattle.meaning.specs.Agreement.{Agree}
 use Rattle.meaning.specs.FirstWord.{FirstWord}
-use Rattle.meaning.specs.Reachable.{AllReachable, LowestUnreachable}
 use Rattle.acceptance.specs.Masks.{OwnSets}
 use Rattle.automaton.specs.declared.Automaton.{Automaton}
 use Rattle.refusals.specs.declared.Code.{Code}
@@ -17,8 +16,7 @@ use Rattle.clause_sizes.specs.Targets.{Dimensioned}
 use Rattle.compare.specs.declared.Comparison.{Comparison}
 use Rattle.compare.specs.declared.Comparison.TheVariants as comparison
 use Rattle.compare.specs.Compared.{returned as comparison-said, prefix_room, loop_room}
-use Rattle.hoa_text.specs.Grammar.{gives}
-use Rattle.hoa_text.specs.Reading.{reading, text_limit, read_stored}
+use Rattle.hoa_text.specs.Reading.{reading, text_limit}
 use Rattle.hoa_text.specs.Tokens.{tokens}
 use Rattle.hoa_write.specs.Answer.{hoa_room}
 use Rattle.hoa_read.specs.Told.{fault as hoa-said}
@@ -50,34 +48,13 @@ no_fault fault = record { met = fault ≡ none; otherwise = fault_code fault }
 
 -- 2 before reading, with the limit as offset; then left to right, as `hoa_text` defines it: 1 to 4, 5 for a body twice, 6; and after the
 -- whole text 5 and 7
-abbrev pub to_read_stored : (text : List ℕ) → List Condition
-to_read_stored text = asks (length text ≤ text_limit) 2 text_limit 0 ∷ no_fault (hoa-said (reading (tokens text))) ∷ []
+abbrev pub to_read : (text : List ℕ) → List Condition
+to_read text = asks (length text ≤ text_limit) 2 text_limit 0 ∷ no_fault (hoa-said (reading (tokens text))) ∷ []
 
--- E7: "15, lowest unreachable state, 0; after 7"
-abbrev pub to_read : (text : List ℕ) (state : ℕ) → List Condition
-to_read text state = to_read_stored text ++ (asks ((a : Automaton) → read_stored text ≡ gives a → AllReachable (view a)) 15 state 0 ∷ [])
+-- ---- the HOA writer
 
--- The reader is judged by its conditions, and 15's state is the lowest that is unreachable in the automaton that the text gives.
-pub record JudgesText (text : List ℕ) (said : Option Code) : Type 0 where
-  pub state : ℕ
-  pub judged : Judged (to_read text state) said (Unit {0})
-  pub lowest : (a : Automaton) → read_stored text ≡ gives a → ¬ AllReachable (view a) → LowestUnreachable (view a) state
-
--- ---- the HOA writer: "refused by reader and writer", after 13 and 4
-
-abbrev pub to_write : (a : Automaton) (given state : ℕ) → List Condition
-to_write a given state = asks (hoa_room ≤ given) 13 hoa_room given ∷ asks (Valid a) 4 0 0 ∷ asks (AllReachable (view a)) 15 state 0 ∷ []
-
--- The writer is judged by its conditions, and 15's state is the lowest that is unreachable.
-pub record JudgesWriting (a : Automaton) (out after : List ℕ) (said : Option Code) : Type 0 where
-  pub state : ℕ
-  pub judged : Judged (to_write a (length out) state) said (after ≡ out)
-  pub lowest : Valid a → ¬ AllReachable (view a) → LowestUnreachable (view a) state
-
--- ---- the converter
-
-abbrev pub to_convert : (a : Automaton) → List Condition
-to_convert a = asks (Valid a) 4 0 0 ∷ []
+abbrev pub to_write : (a : Automaton) (given : ℕ) → List Condition
+to_write a given = asks (hoa_room ≤ given) 13 hoa_room given ∷ asks (Valid a) 4 0 0 ∷ []
 
 -- ---- the comparison; p and l are the lengths of 12's word
 

@@ -8,8 +8,6 @@ use Rattle.std.proofs.Math.Option.{Option, none, some, some_inj, some-ne-none}
 use Rattle.std.proofs.Math.Decide.{ℕ_discrete, dec_le, dec_lt}
 use Rattle.meaning.specs.Agreement.{Agree}
 use Rattle.meaning.specs.Decision.{decide_agree}
-use Rattle.meaning.specs.Reachable.{AllReachable}
-use Rattle.meaning.specs.ReachableLaws.{decide_all_reachable}
 use Rattle.meaning.specs.Tests.{all}
 use Rattle.meaning.specs.TestLaws.{all_at, all_of}
 use Rattle.acceptance.specs.Masks.{OwnSets}
@@ -18,7 +16,7 @@ use Rattle.refusals.specs.declared.Code.{Code}
 use Rattle.automaton.specs.Tests.{fits}
 use Rattle.automaton.specs.Value.{Valid}
 use Rattle.automaton.specs.View.{view}
-use Rattle.automaton.specs.ViewLaws.{view_formed, view_comparable}
+use Rattle.automaton.specs.ViewLaws.{view_comparable}
 use Rattle.automaton.specs.Meant.{fits_valid, valid_fits}
 use Rattle.clause_sizes.specs.declared.Target.{Target}
 use Rattle.clause_sizes.specs.Targets.{Dimensioned}
@@ -107,9 +105,6 @@ valid_decided a =
     (Dec·and (Dec·and (ℕ_discrete (length a.lengths) 4) (ℕ_discrete (length a.names) 64))
     (Dec·and (ℕ_discrete (length a.destinations) 256) (ℕ_discrete (length a.marks) 256)))
     (truth_decided (fits a)))
-
-pub reachable_decided : {a : Automaton} → Valid a → Dec (AllReachable (view a))
-reachable_decided v = decide_all_reachable (view_formed v)
 
 pub dimensioned_decided : (τ : Target) → Dec (Dimensioned τ)
 dimensioned_decided τ =

@@ -6,19 +6,15 @@
 use Rattle.std.specs.Prelude.{◌≡◌, ◌⊎◌, List, ◌++◌, ℕ, ◌≤◌, ℤ, length}
 use Rattle.std.proofs.Common.{ap, ◌∙◌}
 use Rattle.std.proofs.Math.Option.{some}
-use Rattle.meaning.specs.Reachable.{AllReachable}
 use Rattle.automaton.specs.declared.Automaton.{Automaton}
 use Rattle.refusals.specs.declared.Code.{Code}
 use Rattle.automaton.specs.Value.{Valid}
-use Rattle.automaton.specs.View.{view}
 use Rattle.clause_sizes.specs.declared.Target.{Target}
 use Rattle.clause_sizes.specs.Targets.{Proper, last, kept}
-use Rattle.convert.specs.declared.Conversion.{Conversion}
-use Rattle.convert.specs.Told.{Tells, returned as converter-said}
 use Rattle.compare.specs.declared.Comparison.{Comparison}
 use Rattle.compare.specs.Compared.{Compared, prefix_room, loop_room}
-use Rattle.hoa_text.specs.ReadBack.{stored_back, read_back}
-use Rattle.hoa_text.specs.Reading.{read_stored, read}
+use Rattle.hoa_text.specs.ReadBack.{read_back}
+use Rattle.hoa_text.specs.Reading.{read}
 use Rattle.hoa_text.specs.Written.{text}
 use Rattle.clause_indices.specs.Indices.{clause_room}
 use Rattle.hoa_read.specs.declared.Reading.{Reading}
@@ -47,9 +43,8 @@ use Rattle.search.specs.declared.Reply as search
 use Rattle.search_rule.specs.Rule as rule
 use Rattle.search.specs.Replies.{Started, Told, Found, returned as search-said}
 use Rattle.demands.specs.Judgement.{Judged}
-use Rattle.demands.specs.Conditions.{to_read_stored, JudgesText, JudgesWriting, to_convert, JudgesComparison, to_count, to_hand_out, JudgesReading, JudgesDecoding, to_start, to_go_on, JudgesFinding}
-use Rattle.demands.specs.HoaJudged.{reader_judged, reader_accepted, reader_told, stored_judged, stored_accepted, writer_judged}
-use Rattle.demands.specs.ConverterJudged.{converter_judged}
+use Rattle.demands.specs.Conditions.{to_read, to_write, JudgesComparison, to_count, to_hand_out, JudgesReading, JudgesDecoding, to_start, to_go_on, JudgesFinding}
+use Rattle.demands.specs.HoaJudged.{reader_judged, reader_valid, writer_judged}
 use Rattle.demands.specs.ComparisonJudged.{comparison_judged}
 use Rattle.demands.specs.ClausesJudged.{header_judged, step_judged, line_judged, lines_judged}
 use Rattle.demands.specs.SolverTextJudged.{reading_judged, fault_place, fault_number, whole_judged}
@@ -60,20 +55,11 @@ use Rattle.demands.specs.SearchJudged.{start_judged, told_judged, found_judged}
 
 -- hoa_read::read
 pub record ReadsHoa : Type 0 where
-  pub judged : (s : List ℕ) (r : Reading) → r ≡ hoa.told (read s) → JudgesText s (hoa.returned r.answer)
-  -- what is accepted lies in "The automaton", and all its states are reachable
-  pub valid : (s : List ℕ) (r : Reading) → r ≡ hoa.told (read s) → r.answer ≡ Read → Valid r.automaton × AllReachable (view r.automaton)
-  -- and every such automaton has a text that is accepted as that automaton: the reader does not always object
-  pub every : (a : Automaton) → Valid a → AllReachable (view a) → (r : Reading) → r ≡ hoa.told (read (text a)) → r ≡ record { answer = Read; automaton = a }
-
--- hoa_read::read_stored: "Stored references, read without this refusal"
-pub record ReadsStored : Type 0 where
-  pub judged : (s : List ℕ) (r : Reading) → r ≡ hoa.told (read_stored s) → Judged (to_read_stored s) (hoa.returned r.answer) (Unit {0})
-  pub valid : (s : List ℕ) (r : Reading) → r ≡ hoa.told (read_stored s) → r.answer ≡ Read → Valid r.automaton
-  -- every automaton, with unreachable states or without
-  pub every : (a : Automaton) → Valid a → (r : Reading) → r ≡ hoa.told (read_stored (text a)) → r ≡ record { answer = Read; automaton = a }
-  -- what the other reader accepts is read alike
-  pub alike : (s : List ℕ) (r t : Reading) → r ≡ hoa.told (read s) → t ≡ hoa.told (read_stored s) → r.answer ≡ Read → t ≡ r
+  pub judged : (s : List ℕ) (r : Reading) → r ≡ hoa.told (read s) → Judged (to_read s) (hoa.returned r.answer) (Unit {0})
+  -- what is accepted lies in "The automaton"
+  pub valid : (s : List ℕ) (r : Reading) → r ≡ hoa.told (read s) → r.answer ≡ Read → Valid r.automaton
+  -- and every automaton has a text that is accepted as that automaton: the reader does not always object
+  pub every : (a : Automaton) → Valid a → (r : Reading) → r ≡ hoa.told (read (text a)) → r ≡ record { answer = Read; automaton = a }
 
 -- The reader of solver text: a call with a piece, one for the end, and what is said of whole texts
 pub record ReadsSolverText : Type 0 where
@@ -93,13 +79,10 @@ pub record ReadsSolverText : Type 0 where
   pub number : (r : Reader) (c : Code) → solution-said (told r).answer ≡ some c → (c.number ≡ 9) ⊎ (c.number ≡ 10)
 
 pub record Demand1 : Type 0 where
-  -- the readers of HOA text; nothing is lent or carried
+  -- the reader of HOA text; nothing is lent or carried
   pub hoa : ReadsHoa
-  pub stored : ReadsStored
   -- hoa_write::write
-  pub write : (a : Automaton) (out after : List ℕ) (answer : Written) → Answered a out after answer → JudgesWriting a out after (writer-said answer)
-  -- convert::convert; nothing is lent or carried
-  pub convert : (a : Automaton) (r : Conversion) → Tells a r → Judged (to_convert a) (converter-said r.answer) (Unit {0})
+  pub write : (a : Automaton) (out after : List ℕ) (answer : Written) → Answered a out after answer → Judged (to_write a (length out)) (writer-said answer) (after ≡ out)
   -- compare::compare
   pub compare : (a b : Automaton) (prefix prefix-after loop loop-after : List ℕ) (answer : Comparison) → Compared a b prefix prefix-after loop loop-after answer
       → JudgesComparison a b prefix prefix-after loop loop-after answer
@@ -133,19 +116,7 @@ pub record Demand1 : Type 0 where
 -- ---- the proof
 
 reads_hoa : ReadsHoa
-reads_hoa = record {
-  judged = reader_judged;
-  valid = λ s r e q. let k = reader_accepted s r e q in (k.valid, k.reachable);
-  every = λ a v all r e. e ∙ ap hoa.told (read_back a v all);
-}
-
-reads_stored : ReadsStored
-reads_stored = record {
-  judged = stored_judged;
-  valid = stored_accepted;
-  every = λ a v r e. e ∙ ap hoa.told (stored_back a v);
-  alike = λ s r t e f q. f ∙ ap hoa.told (reader_accepted s r e q).stored ∙ reader_told r q;
-}
+reads_hoa = record { judged = reader_judged; valid = reader_valid; every = λ a v r e. e ∙ ap hoa.told (read_back a v) }
 
 reads_solver_text : ReadsSolverText
 reads_solver_text = record {
@@ -163,9 +134,7 @@ reads_solver_text = record {
 pub demand_1 : Demand1
 demand_1 = record {
   hoa = reads_hoa;
-  stored = reads_stored;
-  write = λ a out after answer w. writer_judged w;
-  convert = λ a r t. converter_judged t;
+  write = writer_judged;
   compare = λ a b prefix prefix-after loop loop-after answer c. comparison_judged c;
   header = header_judged;
   step = step_judged;

@@ -1,5 +1,5 @@
 -- DEMAND 2, stated and proved. "Same" exactly if two automata agree on every lasso word, and otherwise the first word that one accepts and the other rejects;
--- and a written automaton reads back as itself, as does the conversion of every one.
+-- and a written automaton reads back as itself.
 use Rattle.std.specs.Prelude.{◌≡◌, refl, ◌≢◌, ◌⊎◌, ◌↔◌, List, ℕ, suc, ◌+◌, ◌*◌, ◌≤◌, ◌<◌, length, take, drop}
 use Rattle.std.proofs.Common.{ap, ◌∙◌, inl, inr, take_at}
 use Rattle.meaning.specs.Agreement.{Agree, AgreeEverywhere, Comparable}
@@ -7,14 +7,10 @@ use Rattle.meaning.specs.AllWords.{agree_everywhere}
 use Rattle.meaning.specs.FirstWord.{FirstWord}
 use Rattle.meaning.specs.FirstWordLaws.{first_word_once, first_word_flip}
 use Rattle.meaning.specs.FirstWordExists.{agree_or_first}
-use Rattle.meaning.specs.Reachable.{AllReachable}
 use Rattle.automaton.specs.declared.Automaton.{Automaton}
 use Rattle.automaton.specs.Value.{Valid}
 use Rattle.automaton.specs.View.{view}
 use Rattle.automaton.specs.ViewLaws.{view_comparable}
-use Rattle.convert.specs.declared.Answer.TheVariants.{Converted}
-use Rattle.convert.specs.declared.Conversion.{Conversion}
-use Rattle.convert.specs.Told.{Tells}
 use Rattle.clause_sizes.specs.declared.Target.{Target}
 use Rattle.compare.specs.declared.Comparison.{Comparison}
 use Rattle.compare.specs.declared.Comparison.TheVariants.{Same}
@@ -35,8 +31,6 @@ use Rattle.hoa_read.specs.Told.{told}
 use Rattle.hoa_write.specs.declared.Written.{Written}
 use Rattle.hoa_write.specs.declared.Written.TheVariants.{Text}
 use Rattle.hoa_write.specs.Answer.{hoa_room, Answered}
-use Rattle.demands.specs.Conversion.{Converts}
-use Rattle.demands.specs.ConverterJudged.{converts}
 use Rattle.demands.specs.ComparisonJudged.{comparison_judged}
 use Rattle.demands.specs.ComparisonOnce.{comparison_once}
 use Rattle.demands.specs.DecoderOnce.{decoding_once}
@@ -85,13 +79,8 @@ pub record Demand2 : Type 0 where
   pub finds_once : (s : Search) (table : Automaton) (prefix p q loop l m : List ℕ) (x y : search.Reply) → Found s table prefix p loop l x → Found s table prefix q loop m y
       → (x ≡ y) × (p ≡ q) × (l ≡ m)
   -- what the writer leaves at the start of the buffer is a text that the reader reads as the same automaton: the same value
-  pub reads_back : (a : Automaton) (out after : List ℕ) (answer : Written) → Answered a out after answer → Valid a → AllReachable (view a) → hoa_room ≤ length out
+  pub reads_back : (a : Automaton) (out after : List ℕ) (answer : Written) → Answered a out after answer → Valid a → hoa_room ≤ length out
       → (k : ℕ) × (answer ≡ Text k) × ((r : Reading) → r ≡ told (read (take k after)) → r ≡ record { answer = Read; automaton = a })
-  -- the converter of document 02's E7
-  pub converts : (a : Automaton) (r : Conversion) → Tells a r → Valid a → (r.answer ≡ Converted) × Converts a r.automaton
-  -- "Decoded tables pass it before they are written, so reading back holds for what was written": of every automaton, and so of every table that is decoded or found
-  pub conversion_back : (a : Automaton) (r : Conversion) → Tells a r → Valid a → (out after : List ℕ) (answer : Written) → Answered r.automaton out after answer → hoa_room ≤ length out
-      → (k : ℕ) × (answer ≡ Text k) × ((t : Reading) → t ≡ told (read (take k after)) → t ≡ record { answer = Read; automaton = r.automaton })
 
 -- ---- the proof
 
@@ -126,12 +115,6 @@ word_of {a} {b} v w e n = go (agree_or_first C)
         let (hx, hy) = word_bounds v w e F in
         record { x = x; y = y; first = F; only = λ p q G. first_word_once G F; either_order = first_word_flip C.same_letters F; prefix_lt = hx; loop_le = hy }
 
-written_back : (a : Automaton) (out after : List ℕ) (answer : Written) → Answered a out after answer → Valid a → AllReachable (view a) → hoa_room ≤ length out
-    → (k : ℕ) × (answer ≡ Text k) × ((r : Reading) → r ≡ told (read (take k after)) → r ≡ record { answer = Read; automaton = a })
-written_back a out after answer w v all h =
-    let (e, i, _) = w.written h v all in
-    (length (text a), e, λ r q. q ∙ ap told (ap (λ s. read (take (length (text a)) s)) i ∙ ap read (take_at (text a) (drop (length (text a)) out) (length (text a)) refl) ∙ read_back a v all))
-
 pub demand_2 : Demand2
 demand_2 = record {
   compares = λ a b prefix prefix-after loop loop-after answer c. comparison c;
@@ -139,7 +122,7 @@ demand_2 = record {
   compares_once = λ a b prefix p q loop l m x y c d. comparison_once c d;
   decodes_once = λ prefix p q loop l m x y a τ r c d. decoding_once c d;
   finds_once = λ s table prefix p q loop l m x y c d. finding_once c d;
-  reads_back = written_back;
-  converts = λ a r t v. converts v t;
-  conversion_back = λ a r t v out after answer w h. let c = (converts v t).1 in written_back r.automaton out after answer w c.valid c.reachable h;
+  reads_back = λ a out after answer w v h.
+      let (e, i, _) = w.written h v in
+      (length (text a), e, λ r q. q ∙ ap told (ap (λ s. read (take (length (text a)) s)) i ∙ ap read (take_at (text a) (drop (length (text a)) out) (length (text a)) refl) ∙ read_back a v));
 }

@@ -1,9 +1,7 @@
 pub mod Judgement
 pub mod Conditions
-pub mod Conversion
 pub mod Decisions
 pub mod HoaJudged
-pub mod ConverterJudged
 pub mod ComparisonJudged
 pub mod ClausesJudged
 pub mod SolverTextJudged

@@ -80,11 +80,11 @@ module _ (T : Task) where
       )
 
   pub all_paths_laws : ((u v : ℕ) → T.kept u v ≡ true) → PathLaws T (all_paths T)
-  all_paths_laws all_kept = record {
+  all_paths_laws all-kept = record {
     place_lt = path_place_lt;
     onto = λ k h.
         let (q, u, p, v, I, J, hq, hu, hp, hv, hI, hJ, e) = path_place_onto k h in
-        (q, u, p, v, I, J, (hq, hu, hp, hv, hI, hJ, all_kept u v), e);
+        (q, u, p, v, I, J, (hq, hu, hp, hv, hI, hJ, all-kept u v), e);
     variable = path_at_lem;
     variable_place = λ q u p v I J (hq, hu, hp, hv, hI, hJ, k). path_at_place q u p v I J hu hp hv hI hJ;
   }

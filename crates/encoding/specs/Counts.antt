@@ -13,11 +13,11 @@ use Rattle.meaning.specs.Totals.{total_same, total_times, total_const}
 
 -- where all are kept, all u, v and l
 pub sharing_all : (T : Task) → ((u v : ℕ) → T.kept u v ≡ true) → sharing T ≡ T.reference.states * T.reference.states * T.reference.letters
-sharing_all T all_kept =
+sharing_all T all-kept =
     let r = T.reference.states in
     let L = T.reference.letters in
     total_same r _ (λ u. r * (L * 1)) (λ u hu. total_same r _ (λ v. L * 1)
-    (λ v hv. total_same L _ (λ l. 1) (λ l hl. ap₂ (λ a b. bit (a && b)) (all_kept u v) (all_kept u (T.reference.step v l))) ∙ total_const L 1) ∙ total_const r (L * 1))
+    (λ v hv. total_same L _ (λ l. 1) (λ l hl. ap₂ (λ a b. bit (a && b)) (all-kept u v) (all-kept u (T.reference.step v l))) ∙ total_const L 1) ∙ total_const r (L * 1))
     ∙ total_const r (r * (L * 1)) ∙ omega arith
 
 module _ (T : Task) (num : Var → ℕ) where

@@ -1,4 +1,6 @@
 // What stands behind `Acceptance:`: the number of sets, and a formula that says yes or no for each set of marks.
+#![tactic(auto)]
+
 ghost use Rattle.std.specs.Prelude.{◌≡◌, ◌^◌, ◌≤◌, min};
 ghost use Rattle.meaning.specs.BitSet.{has, set_of};
 ghost use Rattle.hoa_acceptance.specs.Answers.{ReadsSets, Past, is_word_of};
@@ -13,7 +15,7 @@ use hoa_words::spells;
 use refusals::Refusal;
 
 // The number of sets, the acceptance, bit x for the set of marks x, and the offset behind its formula; or why it is refused.
-#[derive(Drop)]
+#[derive(Clone, Copy)]
 pub enum SetsRead {
     Sets(usize, u16, usize),
     Refused(Refusal),

@@ -1,4 +1,6 @@
 // The body of a HOA text: states and edges, up to `--END--`.
+#![tactic(auto)]
+
 mod edges;
 mod parts;
 mod states;
@@ -13,7 +15,7 @@ use refusals::Refusal;
 use tables::{no_states, with_edge, with_state};
 
 // A state while its edges are read.
-#[derive(Drop)]
+#[derive(Clone, Copy)]
 pub struct Current {
     // `Automaton::STATES` before the first.
     pub state: usize,
@@ -26,7 +28,7 @@ pub struct Current {
 }
 
 // The body so far.
-#[derive(Drop)]
+#[derive(Clone, Copy)]
 pub struct Table {
     // The states that were named: bit q for the state q.
     pub named: u16,
@@ -39,13 +41,13 @@ pub struct Table {
 }
 
 // The offset behind `--END--`, or why the body is refused.
-#[derive(Drop)]
+#[derive(Clone, Copy)]
 pub enum Answer {
     End(usize),
     Refused(Refusal),
 }
 
-#[derive(Drop)]
+#[derive(Clone, Copy)]
 pub struct BodyRead {
     pub answer: Answer,
     pub table: Table,

@@ -13,7 +13,7 @@ use hoa_words::{END, STATE, names_item};
 use refusals::Refusal;
 
 // What stands first in the body; the last number is the offset behind it.
-#[derive(Drop)]
+#[derive(Clone, Copy)]
 pub enum Part {
     // A state and its marks.
     State(usize, u8, usize),

@@ -1,5 +1,7 @@
 // Prints the clause file for the reference on standard input and the candidate's numbers of states and sets, with Inf of all sets, of
 // the list that a third argument names.
+#![tactic(auto)]
+
 use clause_sizes::{Listing, Target};
 use console_clauses::print_file;
 use console_input::{TEXT, from_input, number};

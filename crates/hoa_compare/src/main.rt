@@ -1,4 +1,6 @@
 // Says whether the automata of two files agree, and where they do not, prints the first word that shows it.
+#![tactic(auto)]
+
 use automaton::Automaton;
 use compare::{Comparison, compare};
 use console_input::{TEXT, judge};

@@ -1,5 +1,7 @@
 // Prints the automaton that the solver's output on standard input describes, compared with the reference. The output answers the
 // clause file of the list that a fourth argument names.
+#![tactic(auto)]
+
 use clause_sizes::{Listing, Target};
 use console_decoded::decode_input;
 use console_input::{TEXT, from_argument, number};

@@ -1,4 +1,6 @@
 // An edge of the body: its label, destination and marks.
+#![tactic(auto)]
+
 ghost use Rattle.std.specs.Prelude.{◌≤◌, length};
 ghost use Rattle.hoa_edges.specs.Answers.{EdgeAnswer, UnlabelledAnswer};
 ghost use Rattle.hoa_edges.specs.Parts.{LabelledAnswer, MarkedAnswer};
@@ -11,7 +13,7 @@ use hoa_tokens::{Token, next_token};
 use refusals::Refusal;
 
 // What an edge says: its letters, its destination, its marks, and the offset behind them; or why it is refused.
-#[derive(Drop)]
+#[derive(Clone, Copy)]
 pub enum EdgeRead {
     To(u16, usize, u8, usize),
     Refused(Refusal),

@@ -1,9 +1,8 @@
 // What stands around an expression: what denies it, and brackets.
 ghost use Rattle.hoa_formulas.specs.Parts.{Denies, Closes};
 
-use crate::FormulaRead;
 use crate::tokens::{FormulaToken, formula_token};
-use bits::sets::ALL;
+use crate::{ALL, FormulaRead};
 use hoa_offsets::offset;
 use refusals::Refusal;
 

@@ -1,4 +1,6 @@
 // The labels of edges, read as sets of letters, and acceptance conditions, read as sets of sets of marks.
+#![tactic(auto)]
+
 mod around;
 mod terms;
 mod tokens;
@@ -9,20 +11,21 @@ ghost use Rattle.hoa_formulas.specs.Answers.{Answers};
 ghost use Rattle.hoa_formulas.specs.Parts.{atoms_of};
 
 use around::{closed, complement};
+use automaton::Automaton;
 use hoa_offsets::offset;
 use refusals::Refusal;
 use terms::{constant, named, negates, numbered};
 use tokens::{FormulaToken, formula_token};
 
 // What a formula says: the letters, or the sets of marks, that satisfy it, bit x for x, and the offset behind it; or why it is refused.
-#[derive(Drop)]
+#[derive(Clone, Copy)]
 pub enum FormulaRead {
     Members(u16, usize),
     Refused(Refusal),
 }
 
 // What a formula is read over: so many propositions, or so many sets.
-#[derive(Drop)]
+#[derive(Clone, Copy)]
 pub enum Atoms {
     Propositions(usize),
     Sets(usize),
@@ -30,6 +33,9 @@ pub enum Atoms {
 
 // "open ! and brackets together nest at most 32 deep"
 const NESTING: usize = 32;
+
+// The set of all letters; of all sets of marks and of all states too, of which there are as many.
+pub const ALL: u16 = ((1usize << Automaton::LETTERS) - 1) as u16;
 
 // The label at or after an offset.
 pub fn label(text: &[u8], at: usize, propositions: usize) -> FormulaRead

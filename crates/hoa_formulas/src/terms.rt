@@ -7,8 +7,7 @@ ghost use Rattle.hoa_formulas.specs.Answers.{Answers, Satisfy};
 ghost use Rattle.hoa_formulas.specs.Parts.{atoms_of, ConstantAt, ConstantWord, SetWord, Given};
 
 use crate::around::{closed, complement};
-use crate::{Atoms, FormulaRead};
-use bits::sets::ALL;
+use crate::{ALL, Atoms, FormulaRead};
 use hoa_offsets::{behind, offset};
 use hoa_tokens::{Token, next_token, number_here};
 use hoa_words::{FALSE, FIN, INF, TRUE, spells};

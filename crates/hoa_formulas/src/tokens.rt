@@ -4,7 +4,7 @@ ghost use Rattle.hoa_formulas.specs.Choice.{Chosen};
 use hoa_tokens::first_byte;
 
 // The number of each is the token's offset.
-#[derive(Drop)]
+#[derive(Clone, Copy)]
 pub enum FormulaToken {
     Not(usize),
     And(usize),

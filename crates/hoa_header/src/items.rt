@@ -15,7 +15,7 @@ use hoa_words::{ACCEPTANCE, AP, START, STATES, names_item};
 use refusals::Refusal;
 
 // The items read so far: what was not read yet is false and 0. Of the start its number, and that number's offset.
-#[derive(Drop)]
+#[derive(Clone, Copy)]
 pub struct Items {
     pub counted: bool,
     pub states: usize,
@@ -29,7 +29,7 @@ pub struct Items {
     pub acceptance: u16,
 }
 
-#[derive(Drop)]
+#[derive(Clone, Copy)]
 pub struct ItemRead {
     pub step: Step,
     pub items: Items,

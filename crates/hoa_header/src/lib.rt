@@ -1,4 +1,6 @@
 // The header of a HOA text.
+#![tactic(auto)]
+
 mod expected;
 mod items;
 
@@ -19,14 +21,14 @@ use items::{Items, item, no_items};
 use refusals::Refusal;
 
 // The offset directly behind `--BODY--`, or why the header is refused.
-#[derive(Drop)]
+#[derive(Clone, Copy)]
 pub enum Answer {
     Body(usize),
     Refused(Refusal),
 }
 
 // The automaton has the header's counts and names, and no transitions yet; where the header is refused it is empty.
-#[derive(Drop)]
+#[derive(Clone, Copy)]
 pub struct HeaderRead {
     pub answer: Answer,
     pub automaton: Automaton,

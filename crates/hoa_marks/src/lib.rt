@@ -1,4 +1,6 @@
 // The marks of a state or an edge.
+#![tactic(auto)]
+
 ghost use Rattle.std.specs.Prelude.{◌≤◌};
 ghost use Rattle.hoa_text.specs.Body.{marks};
 ghost use Rattle.hoa_text.specs.Tokens.{left};
@@ -12,7 +14,7 @@ use hoa_tokens::{Token, next_token};
 use refusals::Refusal;
 
 // A set of marks, and the offset behind it; or why it is refused.
-#[derive(Drop)]
+#[derive(Clone, Copy)]
 pub enum MarksRead {
     Marks(u8, usize),
     Refused(Refusal),

@@ -1,4 +1,6 @@
 // The proposition names of a HOA header: what stands behind `AP:`.
+#![tactic(auto)]
+
 mod name;
 
 ghost use Rattle.std.specs.Prelude.{◌≡◌, false, [], ◌-◌, ◌≤◌, length, get_or};
@@ -15,7 +17,7 @@ use name::name;
 use refusals::Refusal;
 
 // The bytes of name i stand from `i * Automaton::NAME` on. Slots that are not in use are 0.
-#[derive(Drop)]
+#[derive(Clone, Copy)]
 pub struct Names {
     pub count: usize,
     pub lengths: [u8; Automaton::PROPOSITIONS],
@@ -23,13 +25,13 @@ pub struct Names {
 }
 
 // The offset directly behind what was read, or why it is refused.
-#[derive(Drop)]
+#[derive(Clone, Copy)]
 pub enum Step {
     Next(usize),
     Refused(Refusal),
 }
 
-#[derive(Drop)]
+#[derive(Clone, Copy)]
 pub struct NamesRead {
     pub step: Step,
     pub names: Names,

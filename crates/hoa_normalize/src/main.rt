@@ -1,4 +1,6 @@
 // Prints the automaton on standard input as document 01 writes it.
+#![tactic(auto)]
+
 use console_input::{TEXT, from_input};
 use console_print::usage;
 use console_results::print_automaton;

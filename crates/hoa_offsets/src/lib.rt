@@ -1,4 +1,6 @@
 // Where the next token of a HOA text ends or is refused.
+#![tactic(auto)]
+
 ghost use Rattle.std.specs.Prelude.{◌≡◌};
 ghost use Rattle.hoa_text.specs.Tokens.{left};
 ghost use Rattle.hoa_text.specs.Grammar.{at};

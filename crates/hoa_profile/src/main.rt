@@ -1,5 +1,7 @@
 // The clause file for a profile, or what a solver's answer to it decodes to. A profile is what is named for the file: the candidate's
 // numbers of states and sets, the clause list, the candidate's acceptance, and where its marks stand.
+#![tactic(auto)]
+
 ghost use Rattle.std.specs.Prelude.{◌≤◌};
 
 use automaton::Automaton;
@@ -17,7 +19,7 @@ use hoa_words::same;
 use refusals::Refusal;
 
 // What the arguments name from N on.
-#[derive(Drop)]
+#[derive(Clone, Copy)]
 struct Arguments {
     states: usize,
     sets: usize,

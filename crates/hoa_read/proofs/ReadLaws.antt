@@ -12,7 +12,7 @@ use Rattle.hoa_text.specs.Tokens.{tokens, left}
 use Rattle.hoa_text.specs.Grammar.{Result, gives, refuses, then}
 use Rattle.hoa_text.specs.Header.{Header, header}
 use Rattle.hoa_text.specs.Body.{body}
-use Rattle.hoa_text.specs.Reading.{ended, reading, read_stored}
+use Rattle.hoa_text.specs.Reading.{ended, reading, read}
 use Rattle.hoa_text.specs.HeaderFits.{HeaderFits}
 use Rattle.hoa_header.specs.Answers.{Opened}
 use Rattle.hoa_header.specs.Fits.{opened_fits}
@@ -54,21 +54,21 @@ opened_bounded a h f o = record {
 }
 
 module _ (s : List ℕ) where
-  pub read_long : 65536 < length s → told (refuses (Size 65536)) ≡ told (read_stored s)
-  unfolding read_stored
+  pub read_long : 65536 < length s → told (refuses (Size 65536)) ≡ told (read s)
+  unfolding read
   read_long h = rw (lt-leb (length s) 65536 h)
 
   module _ (h : length s ≤ 65536) where
-    short : reading (tokens s) ≡ read_stored s
-    unfolding read_stored
+    short : reading (tokens s) ≡ read s
+    unfolding read
     short = rw (le-leb (length s) 65536 h)
 
-    pub read_refused : (x : Refusal) → header (tokens s) ≡ refuses x → told (refuses x) ≡ told (read_stored s)
+    pub read_refused : (x : Refusal) → header (tokens s) ≡ refuses x → told (refuses x) ≡ told (read s)
     read_refused x e = ap told (ap (λ y. then y (λ h u. then (body h u) (ended h))) (sym e) ∙ short)
 
     module _ (a : Automaton) (e : ℕ) (o : Opened s (header (tokens s)) a e) where
       pub read_bounded : Bounded a
       read_bounded = opened_bounded a o.header (opened_fits s a e o) o.automaton
 
-      pub read_opened : (r : Reading) → ((h : Header) → Opens a h → r ≡ told (then (body h (left s e)) (ended h))) → r ≡ told (read_stored s)
+      pub read_opened : (r : Reading) → ((h : Header) → Opens a h → r ≡ told (then (body h (left s e)) (ended h))) → r ≡ told (read s)
       read_opened r k = k o.header o.automaton ∙ ap told (ap (λ y. then y (λ h u. then (body h u) (ended h))) (sym o.is) ∙ short)

@@ -1,12 +1,13 @@
 // The reader of HOA text: the header, the body, and what is judged after the whole text.
+#![tactic(auto)]
+
 mod missing;
 
 ghost use Rattle.std.specs.Prelude.{◌≡◌};
-ghost use Rattle.automaton.specs.Value.{Valid};
 ghost use Rattle.hoa_text.specs.Grammar.{gives, refuses, then};
 ghost use Rattle.hoa_text.specs.Header.{Header};
 ghost use Rattle.hoa_text.specs.Body.{body};
-ghost use Rattle.hoa_text.specs.Reading.{ended, read_stored, reachable_only, read};
+ghost use Rattle.hoa_text.specs.Reading.{ended, read};
 ghost use Rattle.hoa_text.specs.Tokens.{left};
 ghost use Rattle.hoa_body.specs.Answers.{Bounded, Opens};
 ghost use Rattle.hoa_read.specs.Missing.{MadeAnswer, WholeAnswer, EndedAnswer};
@@ -14,23 +15,23 @@ ghost use Rattle.hoa_read.specs.Told.{told, Tells};
 
 use automaton::Automaton;
 use bits::powers::power_of_two;
-use bits::sets::{ALL, lowest};
+use bits::sets::lowest;
 use hoa_body::{Table, body};
+use hoa_formulas::ALL;
 use hoa_header::header;
 use hoa_offsets::offset;
 use hoa_tokens::{Token, next_token};
 use missing::{Gap, first_gap};
-use reach::start::lowest_unreachable;
 use refusals::Refusal;
 
-#[derive(Drop)]
+#[derive(Clone, Copy)]
 pub enum Answer {
     Read,
     Refused(Refusal),
 }
 
 // The automaton that was read; the empty one where the text is refused.
-#[derive(Drop)]
+#[derive(Clone, Copy)]
 pub struct Reading {
     pub answer: Answer,
     pub automaton: Automaton,
@@ -42,18 +43,6 @@ pub const TEXT: usize = 65536;
 // The automaton that a text gives, or why it is refused.
 pub fn read(text: &[u8]) -> Reading
     ensures { Tells (read text.now) result }
-{
-    let reading = read_stored(text);
-    let answer = reading.answer;
-    match answer {
-        Answer::Read => reachable_only(reading.automaton),
-        Answer::Refused(refusal) => refused(refusal),
-    }
-}
-
-// The same for stored references: states that are not reachable from the start are let pass.
-pub fn read_stored(text: &[u8]) -> Reading
-    ensures { Tells (read_stored text.now) result }
 {
     if text.len() > TEXT {
         return refused(Refusal::Size(TEXT));
@@ -119,18 +108,6 @@ fn made(opened: Automaton, table: Table) -> Automaton
     automaton.destinations = destinations;
     automaton.marks = marks;
     automaton
-}
-
-// An unreachable state, the lowest, judged after all else.
-fn reachable_only(automaton: Automaton) -> Reading
-    requires { Valid automaton }
-    ensures { result ≡ told (reachable_only (gives automaton)) }
-{
-    let state = lowest_unreachable(automaton);
-    if state < automaton.states {
-        return refused(Refusal::Unreachable(state));
-    }
-    accepted(automaton)
 }
 
 fn accepted(automaton: Automaton) -> Reading

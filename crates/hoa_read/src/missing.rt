@@ -3,10 +3,11 @@ ghost use Rattle.std.specs.Prelude.{◌≤◌};
 ghost use Rattle.hoa_read.specs.Missing.{GapAnswer};
 
 use automaton::Automaton;
-use bits::sets::{ALL, lowest};
+use bits::sets::lowest;
+use hoa_formulas::ALL;
 
 // The lowest state, and its lowest letter, without an edge.
-#[derive(Drop)]
+#[derive(Clone, Copy)]
 pub enum Gap {
     At(usize, usize),
     Nowhere,

@@ -1,4 +1,6 @@
 // Replays solver answers to the search for fewer states, and prints the next question, or the best table once it is finished.
+#![tactic(auto)]
+
 use automaton::Automaton;
 use clause_sizes::Target;
 use compare::Comparison;
@@ -9,7 +11,7 @@ use console_places::part::first;
 use console_print::{Printed, print, usage};
 use console_read::{argument, read_some};
 use console_report::lines::{LINE, ask};
-use console_results::print_converted;
+use console_results::print_automaton;
 use decode::Decoded;
 use refusals::Refusal;
 use search::Reply;
@@ -35,7 +37,7 @@ fn main() {
 }
 
 // The search after the answers so far. Where one of them was not taken, it is not whole, and standard error has the reason.
-#[derive(Drop)]
+#[derive(Clone, Copy)]
 struct Replayed {
     whole: bool,
     search: Search,
@@ -154,7 +156,7 @@ fn print_search(search: Search) {
     let printed = print_finished(search.open);
     if printed.written {
         let best = search.best;
-        print_converted(best);
+        print_automaton(best);
     }
 }
 

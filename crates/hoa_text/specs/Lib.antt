@@ -19,7 +19,6 @@ pub mod BodyInduction
 pub mod TableFits
 pub mod ListedFirst
 pub mod Made
-pub mod Unreachable
 pub mod Accepted
 pub mod Offsets
 pub mod RunOffsets
@@ -40,4 +39,3 @@ pub mod ReadBack
 pub mod Examples
 pub mod BodyExamples
 pub mod FormulaExamples
-pub mod ReachableExamples

@@ -1,4 +1,4 @@
--- WHAT IS WRITTEN IS READ BACK: reading the text of an automaton gives that automaton, the same value; of one with unreachable states it does so without 15.
+-- WHAT IS WRITTEN IS READ BACK: reading the text of an automaton gives that automaton, the same value.
 use Rattle.std.specs.Prelude.{◌≡◌, refl, [], ◌++◌, ℕ, ◌≤◌, ◌<◌, ltb, length, get_or}
 use Rattle.std.proofs.Math.Path.{ap}
 use Rattle.std.proofs.Common.{◌∙◌, arith, lt-ltb, le-leb, pow_mono}
@@ -7,22 +7,19 @@ use Rattle.std.proofs.Math.Option.{none, some}
 use Rattle.meaning.specs.BitSet.{has}
 use Rattle.meaning.specs.Counting.{each}
 use Rattle.meaning.specs.CountingLaws.{each_length, each_at}
-use Rattle.meaning.specs.Reachable.{AllReachable, LowestUnreachable}
 use Rattle.automaton.specs.declared.Automaton.{Automaton}
-use Rattle.refusals.specs.declared.Refusal.TheVariants.{Size, Body, NoEdge, Unreachable}
+use Rattle.refusals.specs.declared.Refusal.TheVariants.{Size, Body, NoEdge}
 use Rattle.automaton.specs.Equality.{Same, equal_values}
 use Rattle.automaton.specs.Value.{Valid, destination, mark_set, name}
-use Rattle.automaton.specs.View.{view}
 use Rattle.hoa_text.specs.Basics.{option, is_some}
 use Rattle.hoa_text.specs.Tokens.{tokens}
 use Rattle.hoa_text.specs.Grammar.{gives, refuses, then}
 use Rattle.hoa_text.specs.Body.{Table, letters, body}
-use Rattle.hoa_text.specs.Reading.{made, no_edge, whole, ended, reading, text_limit, read_stored, reachable_only, read}
+use Rattle.hoa_text.specs.Reading.{made, no_edge, whole, ended, reading, text_limit, read}
 use Rattle.hoa_text.specs.Written.{state_lines, end_line, text}
 use Rattle.hoa_text.specs.Names.{name_length_lem}
 use Rattle.hoa_text.specs.Made.{destination_made, marks_made, name_made}
-use Rattle.hoa_text.specs.Accepted.{stored_valid}
-use Rattle.hoa_text.specs.Unreachable.{reachable_given, unreachable_refused}
+use Rattle.hoa_text.specs.Accepted.{accepted_valid}
 use Rattle.hoa_text.specs.WrittenBody.{header_of, filled, before, body_read_lem}
 use Rattle.hoa_text.specs.WrittenHeader.{header_read}
 use Rattle.hoa_text.specs.WrittenLength.{text_le}
@@ -45,8 +42,8 @@ module _ (a : Automaton) (v : Valid a) where
       ∙ ap (λ x. option x (gives (made h full)) refuses)
       (none_first a.states _ (λ q hq. none_first (letters h) _ (λ l hl. ap (λ x. cond (is_some x) none (some (NoEdge q l))) (edge_full q l hq hl))))
 
-  text_read : read_stored (text a) ≡ gives (made (header_of a) full)
-  unfolding read_stored text
+  text_read : read (text a) ≡ gives (made (header_of a) full)
+  unfolding read text
   text_read =
       let r = each a.states (state_lines a) ++ end_line in
       let k₁ = header_read a v r in
@@ -78,13 +75,5 @@ module _ (a : Automaton) (v : Valid a) where
         name_made (header_of a) full i (omega (arith, v.propositions_le)) (omega (arith, ap length e)) ∙ e;
   }
 
-  pub stored_back : read_stored (text a) ≡ gives a
-  stored_back = text_read ∙ ap gives (equal_values (stored_valid (text a) text_read) v itself)
-
-  pub read_back : AllReachable (view a) → read (text a) ≡ gives a
-  unfolding read
-  read_back all = ap reachable_only stored_back ∙ reachable_given v all
-
-  pub unreachable_back : (q : ℕ) → LowestUnreachable (view a) q → read (text a) ≡ refuses (Unreachable q)
-  unfolding read
-  unreachable_back q low = ap reachable_only stored_back ∙ unreachable_refused v q low
+  pub read_back : read (text a) ≡ gives a
+  read_back = text_read ∙ ap gives (equal_values (accepted_valid (text a) text_read) v itself)

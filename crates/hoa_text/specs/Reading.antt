@@ -1,13 +1,11 @@
--- DEFINITIONS, 7 of 8: a text gives an automaton or is refused. Sentences in quotes are document 01's, or document 02's where E7 stands before them; the
--- numbers are those of the table "What is turned down".
+-- DEFINITIONS, 7 of 8: a text gives an automaton or is refused. Sentences in quotes are document 01's; the numbers are those of its table
+-- "What is turned down".
 use Rattle.std.specs.Prelude.{cond, List, [], ℕ, leb, length, get_or}
 use Rattle.std.proofs.Math.Option.{Option, none, some}
 use Rattle.automaton.specs.declared.Automaton.{Automaton}
 use Rattle.refusals.specs.declared.Refusal.{Refusal}
-use Rattle.refusals.specs.declared.Refusal.TheVariants.{Form, Size, Body, NoEdge, Unreachable}
-use Rattle.meaning.specs.Reachable.{reachable}
+use Rattle.refusals.specs.declared.Refusal.TheVariants.{Form, Size, Body, NoEdge}
 use Rattle.automaton.specs.Value.{table, rows}
-use Rattle.automaton.specs.View.{view}
 use Rattle.hoa_text.specs.Basics.{option, is_some, first}
 use Rattle.hoa_text.specs.Tokens.{Stream, stands, over, broken, tokens}
 use Rattle.hoa_text.specs.Grammar.{Result, gives, refuses, then}
@@ -58,22 +56,7 @@ reading s = then (header s) λ h u. then (body h u) (ended h)
 abbrev pub text_limit : ℕ
 text_limit = 65536
 
--- E7: "Stored references, read without this refusal": what follows is not judged
-unfoldable pub read_stored : List ℕ → Result Automaton
-read_stored s =
+unfoldable pub read : List ℕ → Result Automaton
+read s =
     let r = reading (tokens s) in
     cond (leb (length s) text_limit) r (refuses (Size text_limit))
-
--- ---- E7: "A state not reachable from the start is refused by reader and writer from now on"
-
--- "15, lowest unreachable state, 0"
-abbrev pub unreachable : Automaton → Option Refusal
-unreachable a = first a.states λ q. cond (reachable (view a) q) none (some (Unreachable q))
-
--- "after 7", so after all that is judged of a text
-abbrev pub reachable_only : Result Automaton → Result Automaton
-reachable_only (gives a) = option (unreachable a) (gives a) refuses
-reachable_only (refuses f) = refuses f
-
-unfoldable pub read : List ℕ → Result Automaton
-read s = reachable_only (read_stored s)

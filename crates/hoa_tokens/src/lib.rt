@@ -1,4 +1,6 @@
 // The tokens of a HOA text, one at a time, from an offset on.
+#![tactic(auto)]
+
 mod bytes;
 mod names;
 mod numbers;
@@ -16,7 +18,7 @@ use quoted::quoted;
 use signs::body_word;
 
 // What stands first at or after an offset. The first number of each is the token's offset.
-#[derive(Drop)]
+#[derive(Clone, Copy)]
 pub enum Token {
     // A word, and its end.
     Word(usize, usize),
@@ -75,7 +77,7 @@ fn other(text: &[u8], start: usize, byte: u8) -> Token
 }
 
 // The value of digits, up to 255, and their end.
-#[derive(Drop)]
+#[derive(Clone, Copy)]
 pub struct DigitRun {
     pub value: usize,
     pub end: usize,
@@ -100,7 +102,7 @@ pub fn number_here(text: &[u8], at: usize) -> DigitRun
 }
 
 // A byte of the text, and its offset.
-#[derive(Drop)]
+#[derive(Clone, Copy)]
 pub struct Head {
     pub offset: usize,
     pub byte: u8,

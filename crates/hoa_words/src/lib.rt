@@ -1,4 +1,6 @@
 // The words of HOA text, byte for byte: the reader compares them, the writer copies them out.
+#![tactic(auto)]
+
 ghost use Rattle.std.specs.Prelude.{◌≡◌};
 ghost use Rattle.hoa_text.specs.Basics.{same};
 ghost use Rattle.hoa_words.specs.Parts.{spells, names_item};

@@ -1,13 +1,11 @@
 -- DEFINITION: what the writer answers, what that returns, and what it leaves in the lent buffer.
 use Rattle.std.specs.Prelude.{◌≡◌, List, ◌++◌, ℕ, ◌≤◌, ◌<◌, length, drop}
 use Rattle.std.proofs.Math.Option.{Option, none, some}
-use Rattle.meaning.specs.Reachable.{AllReachable, LowestUnreachable}
 use Rattle.automaton.specs.declared.Automaton.{Automaton}
 use Rattle.refusals.specs.declared.Code.{Code}
-use Rattle.refusals.specs.declared.Refusal.TheVariants.{Outside, Short, Unreachable}
+use Rattle.refusals.specs.declared.Refusal.TheVariants.{Outside, Short}
 use Rattle.refusals.specs.Refused.{row, code_of}
 use Rattle.automaton.specs.Value.{Valid}
-use Rattle.automaton.specs.View.{view}
 use Rattle.hoa_text.specs.Written.{text}
 use Rattle.hoa_write.specs.declared.Written.{Written}
 use Rattle.hoa_write.specs.declared.Written.TheVariants.{Text, Refused}
@@ -21,12 +19,9 @@ returned (Refused f) = some (code_of f)
 abbrev pub hoa_room : ℕ
 hoa_room = 8192
 
--- "Order: 13, 4 for handed values", and then document 02's E7: "15, lowest unreachable state, 0". A refusal leaves the buffer as it was; the text stands at its
--- start, and what is past the text is as it was.
+-- "Order: 13, 4 for handed values." A refusal leaves the buffer as it was; the text stands at its start, and what is past the text is as it was.
 pub record Answered (a : Automaton) (out after : List ℕ) (answer : Written) : Type 0 where
   pub short : length out < hoa_room → (answer ≡ Refused (Short hoa_room (length out))) × (after ≡ out) × (returned answer ≡ some (row 13 hoa_room (length out)))
   pub outside : hoa_room ≤ length out → ¬ Valid a → (answer ≡ Refused Outside) × (after ≡ out) × (returned answer ≡ some (row 4 0 0))
-  pub unreachable : hoa_room ≤ length out → Valid a → (q : ℕ) → LowestUnreachable (view a) q
-      → (answer ≡ Refused (Unreachable q)) × (after ≡ out) × (returned answer ≡ some (row 15 q 0))
-  pub written : hoa_room ≤ length out → Valid a → AllReachable (view a)
+  pub written : hoa_room ≤ length out → Valid a
       → (answer ≡ Text (length (text a))) × (after ≡ text a ++ drop (length (text a)) out) × (returned answer ≡ none)

@@ -1,4 +1,6 @@
 // The writer of HOA text.
+#![tactic(auto)]
+
 ghost use Rattle.std.specs.Prelude.{◌≤◌, ◌++◌, length};
 ghost use Rattle.meaning.specs.Counting.{each};
 ghost use Rattle.automaton.specs.Value.{Valid};
@@ -7,7 +9,6 @@ ghost use Rattle.hoa_text.specs.Written.{text, hoa_line, states_line, start_line
 ghost use Rattle.hoa_write.specs.Answer.{Answered};
 
 use automaton::Automaton;
-use reach::start::lowest_unreachable;
 use refusals::Refusal;
 
 mod condition;
@@ -15,7 +16,7 @@ mod edges;
 mod lines;
 mod parts;
 
-#[derive(Drop)]
+#[derive(Clone, Copy)]
 pub enum Written {
     // The number of bytes.
     Text(usize),
@@ -36,10 +37,6 @@ pub fn write(a: Automaton, out: &mut [u8]) -> Written
     }
     if !a.valid() {
         return Written::Refused(Refusal::Outside);
-    }
-    let state = lowest_unreachable(a);
-    if state < a.states {
-        return Written::Refused(Refusal::Unreachable(state));
     }
     Written::Text(text(a, out))
 }

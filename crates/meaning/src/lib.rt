@@ -1,1 +1,2 @@
 // The meaning of automata: definitions and laws in specs/, and no function.
+#![tactic(auto)]

@@ -1,5 +1,7 @@
 // What lines are made of beside numbers: bytes and words, written at a place of a lent buffer. Each returns the place after it. Where there is no room
 // nothing is written, and the place comes back.
+#![tactic(auto)]
+
 ghost use Rattle.std.specs.Prelude.{[], ◌∷◌, ◌+◌, ◌≤◌, length};
 ghost use Rattle.decimal.specs.Wrote.{Wrote, WroteIfRoom};
 

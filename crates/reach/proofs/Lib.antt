@@ -2,4 +2,3 @@ pub mod Stores
 pub mod Closures
 pub mod Pairs
 pub mod Rows
-pub mod ReachableSets

@@ -1,4 +1,4 @@
--- From the rows of reached states: what the start reaches, and the rows of components.
+-- The rows of components, from the rows of reached states.
 use mathlib.Core.Path.{◌≡◌, refl, sym, ap, ap₂, ◌∙◌}
 use mathlib.Core.Bool.{false, ◌&&◌, false≢true}
 use mathlib.Core.List.{List, [], ◌∷◌}
@@ -26,7 +26,7 @@ use Rattle.automaton.specs.View.{view}
 use Rattle.automaton.specs.ViewLaws.{view_formed}
 use Rattle.automaton.specs.Letters.{letters_le}
 use Rattle.reach.specs.Rows.{component_row}
-use Rattle.reach.specs.Closing.{Reached, FromStart}
+use Rattle.reach.specs.Closing.{Reached}
 use Rattle.reach.specs.Mutual.{Mutual}
 use Rattle.reach.proofs.Closures.{all_reached}
 
@@ -47,27 +47,22 @@ alone_reached A small = record {
   via = λ u j v hu h. absurd (omega arith);
 }
 
--- ---- the rows have what is reached, and nothing else
-module _ {a : Automaton} (v : Valid a) {rows : List ℕ} (R : Reached (view a) 256 a.states rows) where
-  exact : (u w : ℕ) → u < a.states → has (get_or rows u 0) w ≡ reaches (view a) u w
+-- ---- and lies in one component with those that it reaches and that reach it
+module _ {a : Automaton} (v : Valid a) {reached rows : List ℕ} (R : Reached (view a) 256 a.states reached) (M : Mutual reached (a.states * 16) rows) where
+  exact : (u w : ℕ) → u < a.states → has (get_or reached u 0) w ≡ reaches (view a) u w
   exact = all_reached (view_formed v) v.states_le (letters_le v) R
 
   -- no row has what is no state
-  outside : (u w : ℕ) → u < a.states → a.states ≤ w → has (get_or rows u 0) w ≡ false
+  outside : (u w : ℕ) → u < a.states → a.states ≤ w → has (get_or reached u 0) w ≡ false
   outside u w hu h = same_truth _ false (λ e. let (x, o, q) = R.only u w hu e in absurd (omega (arith, run_lt (view_formed v) u x hu o, q))) (λ e. absurd (false≢true e))
 
-  pub start_row : FromStart (view a) (get_or rows a.start 0)
-  start_row = record { states = λ q h. exact a.start q v.start_lt; only = λ q h. outside a.start q v.start_lt h }
-
--- ---- and each state lies in one component with those that it reaches and that reach it
-module _ {a : Automaton} (v : Valid a) {reached rows : List ℕ} (R : Reached (view a) 256 a.states reached) (M : Mutual reached (a.states * 16) rows) where
   members : (u w : ℕ) → u < a.states → w < 16 → has (get_or rows u 0) w ≡ has (set_of a.states (together (view a) u)) w
   unfolding together
   members u w hu hw = M.there u w hw (omega arith) ∙ go (dec_lt w a.states)
     where
       go : Dec (w < a.states) → (has (get_or reached u 0) w && has (get_or reached w 0) u) ≡ has (set_of a.states (together (view a) u)) w
-      go (yes h) = ap₂ ◌&&◌ (exact v R u w hu) (exact v R w u h) ∙ sym (has_set_of a.states (together (view a) u) w h)
-      go (no h) = ap (λ b. b && has (get_or reached w 0) u) (outside v R u w hu (omega arith)) ∙ sym (has_past a.states _ w (set_of_lt a.states (together (view a) u)) (omega arith))
+      go (yes h) = ap₂ ◌&&◌ (exact u w hu) (exact w u h) ∙ sym (has_set_of a.states (together (view a) u) w h)
+      go (no h) = ap (λ b. b && has (get_or reached w 0) u) (outside u w hu (omega arith)) ∙ sym (has_past a.states _ w (set_of_lt a.states (together (view a) u)) (omega arith))
 
   row_is : (u : ℕ) → u < 16 → get_or rows u 0 ≡ component_row a u
   row_is u h = go (dec_lt u a.states)

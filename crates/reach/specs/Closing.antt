@@ -1,9 +1,8 @@
--- What the loops of the closure leave, and the start's row. Row u is a set of states that u reaches.
-use Rattle.std.specs.Prelude.{◌≡◌, Bool, true, false, ◌&&◌, ◌||◌, List, ℕ, ◌+◌, ◌*◌, ◌≤◌, ◌<◌, length, get_or}
+-- What the loops of the closure leave. Row u is a set of states that u reaches.
+use Rattle.std.specs.Prelude.{◌≡◌, Bool, true, ◌&&◌, ◌||◌, List, ℕ, ◌+◌, ◌*◌, ◌≤◌, ◌<◌, length, get_or}
 use Rattle.meaning.specs.Automata.{Aut}
 use Rattle.meaning.specs.BitSet.{has}
 use Rattle.meaning.specs.Components.{Leads}
-use Rattle.meaning.specs.Reachable.{reachable}
 
 -- r has the members of the set, and those of `more` where the test passes
 pub record Joined (set more : ℕ) (test : Bool) (r : ℕ) : Type 0 where
@@ -32,8 +31,3 @@ pub record Through (k : ℕ) (old : List ℕ) (n : ℕ) (rows : List ℕ) : Type
 pub record Closed (states : ℕ) (old : List ℕ) (k : ℕ) (rows : List ℕ) : Type 0 where
   pub size : length rows ≡ 16
   pub reached : (A : Aut) → A.states ≡ states → Reached A 256 0 old → Reached A 256 k rows
-
--- the set r has the states that are reachable from the start, and nothing else
-pub record FromStart (A : Aut) (r : ℕ) : Type 0 where
-  pub states : (q : ℕ) → q < A.states → has r q ≡ reachable A q
-  pub only : (q : ℕ) → A.states ≤ q → has r q ≡ false

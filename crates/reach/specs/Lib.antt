@@ -1,4 +1,3 @@
 pub mod Rows
-pub mod Start
 pub mod Closing
 pub mod Mutual

@@ -8,24 +8,8 @@ use automaton::Automaton;
 use bits::powers::power_of_two;
 use bits::sets::{has, single};
 
-// Row u has u alone: a state reaches itself by no step.
-const ALONE: [u16; Automaton::STATES] = [
-    1, 2, 4, 8, 16, 32, 64, 128, 256, 512, 1024, 2048, 4096, 8192, 16384, 32768,
-];
-
-// The rows of an automaton, with all that each state reaches.
-pub fn rows(a: Automaton) -> [u16; Automaton::STATES]
-    requires { Valid a }
-    ensures { Reached (view a) 256 a.states result }
-{
-    let mut rows = ALONE;
-    add_steps(&mut rows, a);
-    close(&mut rows, a.states);
-    rows
-}
-
 // Adds to each state's row where its transitions lead.
-fn add_steps(rows: &mut [u16; Automaton::STATES], a: Automaton)
+pub fn add_steps(rows: &mut [u16; Automaton::STATES], a: Automaton)
     requires { Valid a × Reached (view a) 0 0 rows.old }
     ensures { Reached (view a) 256 0 rows.new }
 {
@@ -40,7 +24,7 @@ fn add_steps(rows: &mut [u16; Automaton::STATES], a: Automaton)
 }
 
 // Warshall's closure: after turn k, the rows have what is reached by way of the states up to k.
-fn close(rows: &mut [u16; Automaton::STATES], states: usize)
+pub fn close(rows: &mut [u16; Automaton::STATES], states: usize)
     requires { (states ≤ 16) × (length rows.old ≡ 16) }
     ensures { Closed states rows.old states rows.new }
 {

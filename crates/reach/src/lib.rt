@@ -1,4 +1,6 @@
-// What the states of an automaton reach: its strongly connected components, as sets of states, and what the start reaches.
+// The strongly connected components of an automaton, as sets of states.
+#![tactic(auto)]
+
 ghost use Rattle.std.specs.Prelude.{◌≡◌, ◌*◌, ◌≤◌, replicate};
 ghost use Rattle.reach.specs.Rows.{ComponentsIfAny};
 ghost use Rattle.reach.specs.Mutual.{Mutual};
@@ -7,7 +9,11 @@ use automaton::Automaton;
 use bits::sets::{has, single};
 
 mod closure;
-pub mod start;
+
+// Row u has u alone: a state reaches itself by no step.
+const ALONE: [u16; Automaton::STATES] = [
+    1, 2, 4, 8, 16, 32, 64, 128, 256, 512, 1024, 2048, 4096, 8192, 16384, 32768,
+];
 
 // For each state the states that lie in one component with it; no states where the value lies outside "The automaton".
 pub fn components(a: Automaton) -> [u16; Automaton::STATES]
@@ -17,7 +23,9 @@ pub fn components(a: Automaton) -> [u16; Automaton::STATES]
     if !a.valid() {
         return rows;
     }
-    let reached = closure::rows(a);
+    let mut reached = ALONE;
+    closure::add_steps(&mut reached, a);
+    closure::close(&mut reached, a.states);
     add_mutual(&mut rows, &reached, a.states);
     rows
 }

@@ -1,8 +1,8 @@
--- DEFINITION: the number and the two values of document 01's table "What is turned down", and of document 02's E7, for each refusal.
+-- DEFINITION: the number and the two values of document 01's table "What is turned down", for each refusal.
 use Rattle.std.specs.Prelude.{ℕ}
 use Rattle.refusals.specs.declared.Code.{Code}
 use Rattle.refusals.specs.declared.Refusal.{Refusal}
-use Rattle.refusals.specs.declared.Refusal.TheVariants.{Form, Size, Item, OtherAcceptance, Undeclared, Outside, Body, SecondEdge, NoEdge, Dimensions, SolverForm, Literal, NoStep, Differ, Short, Propositions, Unreachable}
+use Rattle.refusals.specs.declared.Refusal.TheVariants.{Form, Size, Item, OtherAcceptance, Undeclared, Outside, Body, SecondEdge, NoEdge, Dimensions, SolverForm, Literal, NoStep, Differ, Short, Propositions}
 
 abbrev pub row : ℕ → ℕ → ℕ → Code
 row number first second = record { number = number; first = first; second = second }
@@ -24,5 +24,3 @@ code_of (NoStep state letter) = row 11 state letter
 code_of (Differ prefix loop) = row 12 prefix loop
 code_of (Short needed given) = row 13 needed given
 code_of (Propositions first second) = row 14 first second
--- E7: "15, lowest unreachable state, 0"
-code_of (Unreachable state) = row 15 state 0

@@ -1,9 +1,11 @@
-// What is turned down, and the documents' number and values for it.
+// What is turned down, and document 01's number and values for it.
+#![tactic(auto)]
+
 ghost use Rattle.std.specs.Prelude.{◌≡◌};
 ghost use Rattle.refusals.specs.Refused.{code_of};
 
-// The rows of document 01's table "What is turned down", in its order, and behind them 15, of document 02's E7; the second rows of 3 and 4 are cases of their own.
-#[derive(Drop)]
+// The rows of document 01's table "What is turned down", in its order; the second rows of 3 and 4 are cases of their own.
+#[derive(Clone, Copy)]
 pub enum Refusal {
     // A token that cannot continue the HOA form, at an offset.
     Form(usize),
@@ -37,12 +39,10 @@ pub enum Refusal {
     Short(usize, usize),
     // Different numbers of propositions: first, second.
     Propositions(usize, usize),
-    // A state that is not reachable from the start: the lowest.
-    Unreachable(usize),
 }
 
 // A refusal as it is reported: document 01's number and its two values.
-#[derive(Drop)]
+#[derive(Clone, Copy)]
 pub struct Code {
     pub number: usize,
     pub first: usize,
@@ -133,11 +133,6 @@ impl Refusal {
                 number: 14,
                 first,
                 second,
-            },
-            Refusal::Unreachable(state) => Code {
-                number: 15,
-                first: state,
-                second: 0,
             },
         }
     }

@@ -1,4 +1,6 @@
 // The search for fewer states: how it starts, and what it makes of each answer to its question.
+#![tactic(auto)]
+
 ghost use Rattle.std.specs.Prelude.{◌≡◌, ◌↔◌, true};
 ghost use Rattle.search_rule.specs.Rule.{none, unknown};
 ghost use Rattle.search.specs.Replies.{InRange, Started, Told, AskedFor, Found, refused, nothing};
@@ -10,7 +12,7 @@ use compare::Comparison;
 use refusals::Refusal;
 use search_rule::Search;
 
-#[derive(Drop)]
+#[derive(Clone, Copy)]
 pub enum Answer {
     Taken,
     // The search was finished before.
@@ -19,7 +21,7 @@ pub enum Answer {
 }
 
 // The answer, and the search for the next call.
-#[derive(Drop)]
+#[derive(Clone, Copy)]
 pub struct Reply {
     pub answer: Answer,
     pub search: Search,

@@ -1,11 +1,13 @@
 // The search's rule: from one state of the search to the next.
+#![tactic(auto)]
+
 ghost use Rattle.std.specs.Prelude.{◌≡◌, ◌<◌};
 ghost use Rattle.search_rule.specs.Rule.{below, fresh, found, none, risen, ended};
 
 use automaton::Automaton;
 
 // It asks for an automaton of `n` states and `m` acceptance sets that agrees with the reference; document 01 calls it a table.
-#[derive(Drop)]
+#[derive(Clone, Copy)]
 pub struct Search {
     pub reference: Automaton,
     pub best: Automaton,

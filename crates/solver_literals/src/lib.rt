@@ -1,4 +1,6 @@
 // The literals that a solver text gives: which are turned down, and the table of those that are kept.
+#![tactic(auto)]
+
 ghost use Rattle.std.specs.Prelude.{◌≡◌, ◌≤◌, ◌<◌, ◌^◌, nat_abs};
 ghost use Rattle.solver_scan.specs.SolverText.{literal_of};
 ghost use Rattle.solver_literals.specs.Giving.{Given, mark_of};

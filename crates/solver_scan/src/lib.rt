@@ -1,4 +1,6 @@
 // Solver text byte by byte: where in a line the next byte stands, and what is known of the text before it.
+#![tactic(auto)]
+
 ghost use Rattle.std.specs.Prelude.{◌≡◌};
 ghost use Rattle.solver_scan.specs.Scanning.{scan_byte, scan_end, at_limit};
 
@@ -15,7 +17,7 @@ mod tokens;
 mod words;
 
 // The place in a line.
-#[derive(Drop)]
+#[derive(Clone, Copy)]
 pub enum Place {
     // The first byte of a line.
     Start,
@@ -44,7 +46,7 @@ pub enum Place {
     BadLiteral,
 }
 
-#[derive(Drop)]
+#[derive(Clone, Copy)]
 pub enum Verdict {
     Unstated,
     Satisfiable,
@@ -53,7 +55,7 @@ pub enum Verdict {
 }
 
 // The wide fields stand first, so that the copies in the loop over a text's bytes have no gaps.
-#[derive(Drop)]
+#[derive(Clone, Copy)]
 pub struct Scan {
     // The offset of the next byte; of a refused text, the offset that is reported.
     pub at: u32,

@@ -11,14 +11,14 @@ use clause_sizes::{Sized, Sizes, Target, last_variable, measure};
 use refusals::Refusal;
 
 // The last variable of the file, and the last step or mark variable.
-#[derive(Drop)]
+#[derive(Clone, Copy)]
 pub struct Variables {
     pub last: u32,
     pub kept: u32,
 }
 
 // What a piece is read with: two numbers, and not all sizes, since the loop over its bytes was measured to be faster so.
-#[derive(Drop)]
+#[derive(Clone, Copy)]
 pub enum File {
     Of(Variables),
     Refused(Refusal),

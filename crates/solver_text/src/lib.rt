@@ -1,4 +1,6 @@
 // The reader of solver text: a state that goes from piece to piece, by value.
+#![tactic(auto)]
+
 ghost use Rattle.std.specs.Prelude.{◌≡◌};
 ghost use Rattle.clause_sizes.specs.Targets.{last, kept};
 ghost use Rattle.solver_text.specs.Calls.{Called};
@@ -15,19 +17,19 @@ mod reading;
 
 // What was read so far. `named` has an entry for each step and mark variable, by its number: 0 while it is not named, 1 for
 // true, 2 for false; there is no variable 0.
-#[derive(Drop)]
+#[derive(Clone, Copy)]
 pub struct Reader {
     pub scan: Scan,
     pub named: [u8; Reader::SLOTS],
 }
 
-#[derive(Drop)]
+#[derive(Clone, Copy)]
 pub enum Answer {
     Accepted,
     Refused(Refusal),
 }
 
-#[derive(Drop)]
+#[derive(Clone, Copy)]
 pub struct Reply {
     pub answer: Answer,
     pub reader: Reader,

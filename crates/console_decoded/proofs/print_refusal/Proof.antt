@@ -9,7 +9,7 @@ use Rattle.console_decoded.proofs.print_refusal.Tie as tie
 
 -- the refusals of the last arm
 abbrev others : List ℕ
-others = 0 ∷ 1 ∷ 2 ∷ 3 ∷ 4 ∷ 6 ∷ 7 ∷ 8 ∷ 10 ∷ 11 ∷ 12 ∷ 14 ∷ 15 ∷ 16 ∷ []
+others = 0 ∷ 1 ∷ 2 ∷ 3 ∷ 4 ∷ 6 ∷ 7 ∷ 8 ∷ 10 ∷ 11 ∷ 12 ∷ 14 ∷ 15 ∷ []
 
 enum-known-x : tie.Need-enum-known-x
 enum-known-x c = search rules

@@ -24,8 +24,8 @@ returns c =
     let v = c.before.before.before.before.valid.ensures in
     outside_handed (λ w. true≢false (sym (v.1 w) ∙ not-true _ c.before.before.before.if1.true)) c.print-line.ensures
 
-print-converted-requires : tie.Need-print-converted-requires
-print-converted-requires c κs = search rules
+print-automaton-requires : tie.Need-print-automaton-requires
+print-automaton-requires c κs = search rules
 
 enum-known-written : tie.Need-enum-known-written
 enum-known-written c = search rules
@@ -42,12 +42,12 @@ unworded-requires-2 c κs = search rules
 returns-2 : tie.Need-returns-2
 returns-2 c =
     let b = c.before.before.before.before in
-    text_handed (b.before.before.valid.ensures.0 (not-false _ b.before.if1.false)) b.print-converted.ensures c.before.before.written.given.1 c.unworded.ensures
+    text_handed (b.before.before.valid.ensures.0 (not-false _ b.before.if1.false)) b.print-automaton.ensures c.before.before.written.given.1 c.unworded.ensures
 
 returns-3 : tie.Need-returns-3
 returns-3 c =
     let b = c.before.before.before in
-    never_refused (b.before.before.valid.ensures.0 (not-false _ b.before.if1.false)) b.print-converted.ensures c.before.before.match.keys2
+    never_refused (b.before.before.valid.ensures.0 (not-false _ b.before.if1.false)) b.print-automaton.ensures c.before.before.match.keys2
 
 pub print-table-spec : {M : Type 1} → statement M
 print-table-spec =
@@ -58,7 +58,7 @@ print-table-spec =
     first-requires
     print-line-requires
     returns
-    print-converted-requires
+    print-automaton-requires
     enum-known-written
     unworded-requires
     enum_told

@@ -12,11 +12,11 @@ none-requires c κs = search rules
 returns : tie.Need-returns
 returns c = (refl, record { text = λ e. absurd (true≢false (sym e ∙ not-true _ c.before.if1.true)); unread = λ _. c.none.ensures })
 
-judge-as-requires : tie.Need-judge-as-requires
-judge-as-requires c κs = search rules
+judge-requires : tie.Need-judge-requires
+judge-requires c κs = search rules
 
 returns-2 : tie.Need-returns-2
-returns-2 c = (refl, record { text = λ _. c.judge-as.ensures; unread = λ e. absurd (false≢true (sym e ∙ not-false _ c.before.if1.false)) })
+returns-2 c = (refl, record { text = λ _. c.judge.ensures; unread = λ e. absurd (false≢true (sym e ∙ not-false _ c.before.if1.false)) })
 
 pub judge-read-spec : {M : Type 1} → statement M
-judge-read-spec = tie.close (tie.spec none-requires returns judge-as-requires returns-2)
+judge-read-spec = tie.close (tie.spec none-requires returns judge-requires returns-2)

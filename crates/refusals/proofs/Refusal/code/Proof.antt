@@ -51,9 +51,6 @@ enum-known-self-13 c = search rules
 enum-known-self-14 : tie.Need-enum-known-self-14
 enum-known-self-14 c = search rules
 
-enum-known-self-15 : tie.Need-enum-known-self-15
-enum-known-self-15 c = search rules
-
 returns : tie.Need-returns
 returns c = cc
 
@@ -102,9 +99,6 @@ returns-15 c = cc
 returns-16 : tie.Need-returns-16
 returns-16 c = cc
 
-returns-17 : tie.Need-returns-17
-returns-17 c = cc
-
 pub code-spec : {M : Type 1} → statement M
 code-spec =
     tie.close
@@ -125,7 +119,6 @@ code-spec =
     enum-known-self-12
     enum-known-self-13
     enum-known-self-14
-    enum-known-self-15
     returns
     returns-2
     returns-3
@@ -141,5 +134,4 @@ code-spec =
     returns-13
     returns-14
     returns-15
-    returns-16
-    returns-17)
+    returns-16)

@@ -1,9 +1,9 @@
--- `input` meets its contract.
+-- `from_input` meets its contract.
 use mathlib.Core.Path.{sym, subst}
 use Rattle.console_read.specs.Got.{InputRead}
 use borrow.Author.Rules.{rules}
-use Rattle.console_input.proofs.input.Statement.{statement}
-use Rattle.console_input.proofs.input.Tie as tie
+use Rattle.console_input.proofs.from_input.Statement.{statement}
+use Rattle.console_input.proofs.from_input.Tie as tie
 
 read-input-requires : tie.Need-read-input-requires
 read-input-requires c κs = search rules
@@ -20,8 +20,8 @@ same_length c = search rules
 returns : tie.Need-returns
 returns c = (subst (InputRead _ 0) (sym c.judge-read.ensures.0) c.before.before.before.before.before.read-input.ensures, c.judge-read.ensures.1)
 
-pub input-spec : {M : Type 1} → statement M
-input-spec =
+pub from-input-spec : {M : Type 1} → statement M
+from-input-spec =
     tie.close
     (tie.spec
     read-input-requires
