@@ -62,6 +62,7 @@ places_here zero c n h = refl
 places_here (suc k) c n h = rw (lt-ltb n (10 ^ c) h)
 
 pub places_past : (k c n : ℕ) → 0 < k → 10 ^ c ≤ n → places k c n ≡ places (k - 1) (c + 1) n
+places_past zero c n g h = elim g [ ]
 places_past (suc k) c n g h = let e : k ≡ suc k - 1 = omega arith in rw (le-ltb n (10 ^ c) h) (ap (λ j. places j (c + 1) n) e)
 
 -- ---- the whole number

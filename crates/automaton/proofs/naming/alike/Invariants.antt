@@ -1,0 +1,18 @@
+-- `naming::alike` meets its contract.
+use mathlib.Core.Path.{◌≡◌}
+use mathlib.Core.Bool.{true}
+use Prim.Native.Nat.{◌+◌, ◌≤◌, ◌-◌, ◌*◌}
+use native.Mathlib.Omega.{arith}
+use borrow.Author.Tests.{eq-eqb, ne_eqb}
+use lib.ListN.{get_or}
+use Rattle.automaton.specs.Passes.{passes_none, passes_more, passes_all, fails}
+use lib.Dec.{eqb}
+use Rattle.automaton.specs.Tests.{passes}
+use borrow.Author.Rules.{rules}
+use Rattle.automaton.proofs.naming.alike.Given as goal
+
+abbrev pub invariant-loop-i : goal.invariant-loop-i
+invariant-loop-i l = (l.i ≤ 16) × (passes l.i (λ b. eqb (get_or l.names (l.first * 16 + b) 0) (get_or l.names (l.second * 16 + b) 0)) ≡ true)
+
+abbrev pub decreases-loop-i : goal.decreases-loop-i
+decreases-loop-i l = 16 - l.i

@@ -1,0 +1,17 @@
+-- `naming::lengths_fit` meets its contract.
+use mathlib.Core.Path.{◌≡◌, sym, ◌∙◌}
+use mathlib.Core.Bool.{true}
+use Prim.Native.Nat.{◌≤◌, ◌-◌}
+use native.Mathlib.Omega.{arith}
+use borrow.Author.Tests.{not-true, not-false}
+use lib.ListN.{get_or}
+use Rattle.automaton.specs.Passes.{passes_none, passes_more, passes_all, fails}
+use Rattle.automaton.specs.Tests.{passes, length_fits}
+use borrow.Author.Rules.{rules}
+use Rattle.automaton.proofs.naming.lengths_fit.Given as goal
+
+abbrev pub invariant-loop-i : goal.invariant-loop-i
+invariant-loop-i l = (l.i ≤ 4) × (passes l.i (λ k. length_fits l.count k (get_or l.lengths k 0)) ≡ true)
+
+abbrev pub decreases-loop-i : goal.decreases-loop-i
+decreases-loop-i l = 4 - l.i

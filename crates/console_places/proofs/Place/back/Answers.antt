@@ -1,0 +1,6 @@
+-- `Place::back` meets its contract.
+use borrow.Author.Rules.{rules}
+use Rattle.console_places.proofs.Place.back.Goals as goal
+
+pub returns : goal.returns
+returns c = rw c.less.ensures

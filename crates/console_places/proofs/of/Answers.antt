@@ -1,0 +1,6 @@
+-- `of` meets its contract.
+use borrow.Author.Rules.{rules}
+use Rattle.console_places.proofs.of.Goals as goal
+
+pub returns : goal.returns
+returns c = rw (c.byte_at.ensures, c.after-place.ensures, c.first.ensures, c.first-2.ensures)
