@@ -6,7 +6,7 @@ use console_input::number;
 use console_numerals::Number;
 use console_places::part::first;
 use console_print::print;
-use console_read::read_input;
+use console_read::{argument_count, buffer, read_input};
 use console_report::lines::LINE;
 use hoa_read::Answer;
 use pieces::{byte, word};
@@ -21,26 +21,27 @@ struct Tally {
     states: u64,
 }
 
-fn main() {
-    if os::arg_count() != 2 {
-        return usage();
+fn main(rt: HostRuntime) {
+    let rt = &rt;
+    if argument_count(rt) != 2 {
+        return usage(rt);
     }
-    let mut word = io::buffer();
-    let argument = number(1, &mut word);
+    let mut word = buffer();
+    let argument = number(rt, 1, &mut word);
     let count = argument.number;
     let Number::Of(rounds) = count else {
-        return usage();
+        return usage(rt);
     };
     let mut texts = [0u8; hoa_read::TEXT];
-    let got = read_input(&mut texts);
+    let got = read_input(rt, &mut texts);
     if !got.whole {
         return;
     }
-    tell(read_often(first(&texts, got.length), rounds));
+    tell(rt, read_often(first(&texts, got.length), rounds));
 }
 
-fn usage() {
-    console_print::usage(b"bench_hoa_read COUNT < SLOTS");
+fn usage(rt: &HostRuntime) {
+    console_print::usage(rt, b"bench_hoa_read COUNT < SLOTS");
 }
 
 fn read_often(texts: &[u8], rounds: u64) -> Tally {
@@ -81,12 +82,12 @@ fn read_slot(text: &[u8], before: Tally) -> Tally {
     }
 }
 
-fn tell(tally: Tally) {
+fn tell(rt: &HostRuntime, tally: Tally) {
     let mut line = [0u8; LINE];
     let mut at = word(b"accepted ", &mut line, 0);
     at = decimal::write(tally.accepted, &mut line, at);
     at = word(b" states ", &mut line, at);
     at = decimal::write(tally.states, &mut line, at);
     at = byte(b'\n', &mut line, at);
-    print(&line, at);
+    print(rt, &line, at);
 }

@@ -1,5 +1,5 @@
 -- Laws of sets of at most 16 numbers.
-use Rattle.std.specs.Prelude.{◌≡◌, false, cond, ℕ, ◌/◌, ◌%◌, ◌*◌, ◌^◌, ◌≤◌, ◌<◌}
+use Rattle.std.specs.Prelude.{◌≡◌, false, cond, ℕ, ◌%◌, ◌*◌, ◌^◌, ◌≤◌, ◌<◌}
 use Rattle.std.proofs.Common.{ap, ◌∙◌, mod-eq_of_lt, arith, lt-ltb, le-ltb, pow_mono}
 use Rattle.std.proofs.Math.Nat.{div-eq_of_lt}
 use Rattle.std.proofs.Math.Pow.{pow-lt}

@@ -11,10 +11,11 @@ use automaton::Automaton;
 use clause_sizes::Target;
 use console_places::Place;
 use console_places::part::first;
-use console_read::read_some;
+use console_read::{large_buffer, read_some};
 use decode::{Decoded, decode};
 use refusals::Refusal;
 use solver_text::{Answer, Reader};
+use std::io::Read;
 
 // What was decoded. Where the text could not be read, it is not whole, and standard error has the reason. Of a text that was
 // refused, `place` is that of the refusal's offset.
@@ -26,8 +27,9 @@ pub struct Told {
 }
 
 // Reads to the end, or until the text is refused, and decodes. The first word that shows a difference is written into `prefix` and `cycle`.
-pub fn read(
-    fd: i32,
+pub fn read<R: Read>(
+    rt: &HostRuntime,
+    file: &mut R,
     name: &[u8],
     reference: Automaton,
     target: Target,
@@ -36,7 +38,7 @@ pub fn read(
 ) -> Told
     ensures { FromPieces prefix.old prefix.new cycle.old cycle.new result reference target }
 {
-    let heard = hear_all(fd, name, reference, target);
+    let heard = hear_all(rt, file, name, reference, target);
     let reader = heard.reader;
     let place = heard.place;
     let decoded = decode(reference, target, reader, prefix, cycle);
@@ -77,7 +79,13 @@ struct Heard {
 
 // An empty piece comes first: what is refused before reading is refused before the text is waited for. Byte 4,294,967,295 is
 // refused, so a text ends.
-fn hear_all(fd: i32, name: &[u8], reference: Automaton, target: Target) -> Heard
+fn hear_all<R: Read>(
+    rt: &HostRuntime,
+    file: &mut R,
+    name: &[u8],
+    reference: Automaton,
+    target: Target,
+) -> Heard
     ensures so_far { SoFar reference target result }
     ensures over { result.more ≡ false }
 {
@@ -89,19 +97,26 @@ fn hear_all(fd: i32, name: &[u8], reference: Automaton, target: Target) -> Heard
         first(name, 0),
     );
     while heard.more {
-        heard = hear_some(heard, fd, name, reference, target);
+        heard = hear_some(rt, heard, file, name, reference, target);
     }
     heard
 }
 
 // One piece more.
-fn hear_some(heard: Heard, fd: i32, name: &[u8], reference: Automaton, target: Target) -> Heard
+fn hear_some<R: Read>(
+    rt: &HostRuntime,
+    heard: Heard,
+    file: &mut R,
+    name: &[u8],
+    reference: Automaton,
+    target: Target,
+) -> Heard
     ensures { Goes reference target heard result }
 {
     let reader = heard.reader;
     let place = heard.place;
-    let mut piece = io::large_buffer();
-    let got = read_some(fd, name, &mut piece);
+    let mut piece = large_buffer();
+    let got = read_some(rt, file, name, &mut piece);
     if got.length == 0 {
         return Heard {
             more: false,

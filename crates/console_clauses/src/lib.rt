@@ -29,23 +29,28 @@ pub struct Printout {
 }
 
 // Prints the clause file, header first, or its refusal, which speaks of the program's arguments. Nothing comes behind bytes that the output did not take.
-pub fn print_file(reference: Automaton, target: Target, program: &[u8]) -> Printout
+pub fn print_file(
+    rt: &HostRuntime,
+    reference: Automaton,
+    target: Target,
+    program: &[u8],
+) -> Printout
     ensures { HandsFile reference target result }
 {
     let totals = header(reference, target);
     match totals {
         Totals::Of(variables, clauses) => {
-            let header = print_header(variables, clauses);
-            print_clauses(reference, target, header)
+            let header = print_header(rt, variables, clauses);
+            print_clauses(rt, reference, target, header)
         }
-        Totals::Refused(x) => print_refusal(x, program),
+        Totals::Refused(x) => print_refusal(rt, x, program),
     }
 }
 
-fn print_refusal(x: Refusal, program: &[u8]) -> Printout
+fn print_refusal(rt: &HostRuntime, x: Refusal, program: &[u8]) -> Printout
     ensures { (result.whole ≡ false) × (result.bytes ≡ count (refused_line x)) }
 {
-    let refused = refuse(x, program, Place::first());
+    let refused = refuse(rt, x, program, Place::first());
     let line = refused.line;
     Printout {
         headed: false,
@@ -54,17 +59,22 @@ fn print_refusal(x: Refusal, program: &[u8]) -> Printout
     }
 }
 
-fn print_header(variables: u64, clauses: u64) -> Printed
+fn print_header(rt: &HostRuntime, variables: u64, clauses: u64) -> Printed
     ensures is { Hands (header_line variables clauses) result }
     ensures most { result.length ≤ 80 }
 {
     let mut line = [0u8; LINE];
     let length = console_report::lines::header(variables, clauses, &mut line);
-    print_line(&line, length)
+    print_line(rt, &line, length)
 }
 
 // No batch follows a header that the output did not take. Each batch leaves fewer clauses, and has at most 262,144 bytes.
-fn print_clauses(reference: Automaton, target: Target, header: Printed) -> Printout
+fn print_clauses(
+    rt: &HostRuntime,
+    reference: Automaton,
+    target: Target,
+    header: Printed,
+) -> Printout
     requires valid { Valid reference }
     requires proper { Proper target }
     requires length_bound { header.length ≤ 80 }
@@ -80,7 +90,7 @@ fn print_clauses(reference: Automaton, target: Target, header: Printed) -> Print
     }
     let mut position = fresh();
     loop {
-        let next = print_batch(reference, target, position);
+        let next = print_batch(rt, reference, target, position);
         bytes += next.length as u64;
         if !next.more {
             return Printout {
@@ -104,7 +114,7 @@ struct Next {
 }
 
 // As many lines as a buffer holds. It has room for one, so that the call is not refused.
-fn print_batch(reference: Automaton, target: Target, position: u64) -> Next
+fn print_batch(rt: &HostRuntime, reference: Automaton, target: Target, position: u64) -> Next
     requires valid { Valid reference }
     requires proper { Proper target }
     requires position_bound { position ≤ 8657059969 }
@@ -116,7 +126,7 @@ fn print_batch(reference: Automaton, target: Target, position: u64) -> Next
     let position = handed.position;
     match answer {
         Answer::Written(length) => {
-            let printed = print(&text, length);
+            let printed = print(rt, &text, length);
             Next {
                 more: printed.written,
                 ended: false,
@@ -131,7 +141,7 @@ fn print_batch(reference: Automaton, target: Target, position: u64) -> Next
             length: 0,
         },
         Answer::Refused(x) => {
-            refuse(x, b"clauses", Place::first());
+            refuse(rt, x, b"clauses", Place::first());
             Next {
                 more: false,
                 ended: false,

@@ -15,7 +15,6 @@ use console_print::{Printed, print};
 use console_results::{print_automaton, print_word};
 use decode::{Answer, Decoded};
 use hoa_write::Written;
-use libc::STDIN_FILENO;
 use refusals::Refusal;
 
 // How many bytes were handed over to the output: those of the answer, and behind them those of the two lines of a word.
@@ -27,13 +26,20 @@ pub struct Output {
 
 // Decodes the solver's output on standard input, compared with the reference, and prints the answer. Of an input that could not be read nothing is printed; standard error
 // has the reason.
-pub fn decode_input(reference: Automaton, target: Target, program: &[u8]) -> Output
+pub fn decode_input(
+    rt: &HostRuntime,
+    reference: Automaton,
+    target: Target,
+    program: &[u8],
+) -> Output
     ensures { HandsInput reference target result }
 {
     let mut prefix = [0u8; Comparison::PREFIX];
     let mut cycle = [0u8; Comparison::LOOP];
+    let mut input = rt.stdin();
     let told = console_answers::read(
-        STDIN_FILENO,
+        rt,
+        &mut input,
         b"standard input",
         reference,
         target,
@@ -45,11 +51,12 @@ pub fn decode_input(reference: Automaton, target: Target, program: &[u8]) -> Out
     }
     let decoded = told.decoded;
     let place = told.place;
-    print_decoded(decoded, place, program, &prefix, &cycle)
+    print_decoded(rt, decoded, place, program, &prefix, &cycle)
 }
 
 // Prints the table as HOA text, `none`, `unknown`, or the refusal of an input whose place is given, and the word that stands in the two buffers.
 pub fn print_decoded(
+    rt: &HostRuntime,
     decoded: Decoded,
     place: Place,
     program: &[u8],
@@ -60,36 +67,37 @@ pub fn print_decoded(
 {
     let answer = decoded.answer;
     match answer {
-        Answer::Table => print_table(decoded.table),
-        Answer::None => print_answer(b"none\n"),
-        Answer::Unknown => print_answer(b"unknown\n"),
-        Answer::Refused(x) => print_refusal(x, place, program, prefix, cycle),
+        Answer::Table => print_table(rt, decoded.table),
+        Answer::None => print_answer(rt, b"none\n"),
+        Answer::Unknown => print_answer(rt, b"unknown\n"),
+        Answer::Refused(x) => print_refusal(rt, x, place, program, prefix, cycle),
     }
 }
 
 // Its text, or 4 where it is none that HOA could give. What is valid is not turned down.
-fn print_table(table: Automaton) -> Output
+fn print_table(rt: &HostRuntime, table: Automaton) -> Output
     ensures { HandsTable table result }
 {
     if !table.valid() {
-        return print_line(Refusal::Outside, b"the automaton", Place::first());
+        return print_line(rt, Refusal::Outside, b"the automaton", Place::first());
     }
-    let written = print_automaton(table);
+    let written = print_automaton(rt, table);
     match written {
         Written::Text(length) => unworded(length),
         Written::Refused(_) => unworded(0),
     }
 }
 
-fn print_answer(word: &[u8]) -> Output
+fn print_answer(rt: &HostRuntime, word: &[u8]) -> Output
     ensures { Alone word.now result }
 {
-    let printed = print(word, word.len());
+    let printed = print(rt, word, word.len());
     unworded(printed.length)
 }
 
 // After 12 comes the first word that shows the difference; 8, and 4 for the named acceptance, speak of the arguments.
 fn print_refusal(
+    rt: &HostRuntime,
     x: Refusal,
     place: Place,
     program: &[u8],
@@ -100,17 +108,18 @@ fn print_refusal(
 {
     match x {
         Refusal::Differ(p, l) => {
-            let refused = refuse(x, b"standard input", place);
-            print_behind(refused.line, prefix, p, cycle, l)
+            let refused = refuse(rt, x, b"standard input", place);
+            print_behind(rt, refused.line, prefix, p, cycle, l)
         }
-        Refusal::Dimensions(_, _) => print_line(x, program, place),
-        Refusal::Outside => print_line(x, program, place),
-        _ => print_line(x, b"standard input", place),
+        Refusal::Dimensions(_, _) => print_line(rt, x, program, place),
+        Refusal::Outside => print_line(rt, x, program, place),
+        _ => print_line(rt, x, b"standard input", place),
     }
 }
 
 // No word follows a line that the output did not take.
 fn print_behind(
+    rt: &HostRuntime,
     line: Printed,
     prefix: &[u8; Comparison::PREFIX],
     p: usize,
@@ -122,17 +131,17 @@ fn print_behind(
     if !line.written {
         return unworded(line.length);
     }
-    let word = print_word(prefix, p, cycle, l);
+    let word = print_word(rt, prefix, p, cycle, l);
     Output {
         answer: line.length,
         word: word.length,
     }
 }
 
-fn print_line(x: Refusal, name: &[u8], place: Place) -> Output
+fn print_line(rt: &HostRuntime, x: Refusal, name: &[u8], place: Place) -> Output
     ensures { Alone (refused_line x) result }
 {
-    let refused = refuse(x, name, place);
+    let refused = refuse(rt, x, name, place);
     let line = refused.line;
     unworded(line.length)
 }

@@ -11,7 +11,7 @@ use console_lines::refuse;
 use console_numerals::{Number, parse};
 use console_places::of;
 use console_places::part::first;
-use console_read::{Got, argument, read_file, read_input};
+use console_read::{Got, argument, buffer, read_file, read_input};
 use hoa_read::Answer;
 use refusals::Refusal;
 
@@ -40,21 +40,21 @@ pub struct Numbered {
 }
 
 // The automaton on standard input, whose text is read into the buffer.
-pub fn from_input(text: &mut [u8]) -> Held
+pub fn from_input(rt: &HostRuntime, text: &mut [u8]) -> Held
     ensures read { InputRead (length text.new) 0 result.got }
     ensures is { FromText text.new result }
 {
-    let got = read_input(text);
-    judge_read(b"standard input", text, got)
+    let got = read_input(rt, text);
+    judge_read(rt, b"standard input", text, got)
 }
 
 // The automaton in the file that an argument names.
-pub fn from_argument(i: usize, text: &mut [u8]) -> Held
+pub fn from_argument(rt: &HostRuntime, i: usize, text: &mut [u8]) -> Held
     ensures read { FileRead (length text.new) result.got }
     ensures is { FromText text.new result }
 {
-    let mut path = io::buffer();
-    let got = argument(i, &mut path);
+    let mut path = buffer();
+    let got = argument(rt, i, &mut path);
     if !got.whole {
         return Held {
             got: Got {
@@ -64,19 +64,19 @@ pub fn from_argument(i: usize, text: &mut [u8]) -> Held
             given: none(),
         };
     }
-    from_file(first(&path, got.length), text)
+    from_file(rt, first(&path, got.length), text)
 }
 
-fn from_file(path: &[u8], text: &mut [u8]) -> Held
+fn from_file(rt: &HostRuntime, path: &[u8], text: &mut [u8]) -> Held
     ensures read { FileRead (length text.new) result.got }
     ensures is { FromText text.new result }
 {
-    let got = read_file(path, text);
-    judge_read(path, text, got)
+    let got = read_file(rt, path, text);
+    judge_read(rt, path, text, got)
 }
 
 // The automaton in what was read, if all of it was.
-fn judge_read(name: &[u8], text: &[u8], got: Got) -> Held
+fn judge_read(rt: &HostRuntime, name: &[u8], text: &[u8], got: Got) -> Held
     ensures got { result.got ≡ got }
     ensures is { FromText text.now result }
 {
@@ -86,12 +86,12 @@ fn judge_read(name: &[u8], text: &[u8], got: Got) -> Held
     let length = got.length;
     Held {
         got,
-        given: judge(name, text, length),
+        given: judge(rt, name, text, length),
     }
 }
 
 // The automaton in the first bytes of a buffer.
-pub fn judge(name: &[u8], text: &[u8], length: usize) -> Given
+pub fn judge(rt: &HostRuntime, name: &[u8], text: &[u8], length: usize) -> Given
     ensures { result ≡ given (read (take length text.now)) }
 {
     let text = first(text, length);
@@ -103,15 +103,15 @@ pub fn judge(name: &[u8], text: &[u8], length: usize) -> Given
             accepted: true,
             automaton,
         },
-        Answer::Refused(x) => turned_down(x, name, text),
+        Answer::Refused(x) => turned_down(rt, x, name, text),
     }
 }
 
-fn turned_down(x: Refusal, name: &[u8], text: &[u8]) -> Given
+fn turned_down(rt: &HostRuntime, x: Refusal, name: &[u8], text: &[u8]) -> Given
     ensures { result ≡ nothing }
 {
     let code = x.code();
-    refuse(x, name, of(text, code.first));
+    refuse(rt, x, name, of(text, code.first));
     none()
 }
 
@@ -126,11 +126,11 @@ fn none() -> Given
 }
 
 // A number among the arguments, which is read into the buffer as a word.
-pub fn number(i: usize, word: &mut [u8]) -> Numbered
+pub fn number(rt: &HostRuntime, i: usize, word: &mut [u8]) -> Numbered
     ensures read { ArgumentRead (length word.new) result.got }
     ensures is { FromWord word.new result }
 {
-    let got = argument(i, word);
+    let got = argument(rt, i, word);
     if !got.whole {
         return Numbered {
             got,

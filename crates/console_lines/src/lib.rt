@@ -22,32 +22,32 @@ pub struct TurnedDown {
 }
 
 // Prints the line in the first bytes of a buffer.
-pub fn print_line(line: &[u8; LINE], length: usize) -> Printed
+pub fn print_line(rt: &HostRuntime, line: &[u8; LINE], length: usize) -> Printed
     ensures { Hands (take length line.now) result }
 {
-    print(line, length)
+    print(rt, line, length)
 }
 
 // Prints the line of a refusal, and on standard error a sentence about what is named.
-pub fn refuse(x: Refusal, name: &[u8], place: Place) -> TurnedDown
+pub fn refuse(rt: &HostRuntime, x: Refusal, name: &[u8], place: Place) -> TurnedDown
     ensures { HandsRefusal x place result }
 {
     let mut text = [0u8; LINE];
     let length = lines::refused(x, &mut text);
-    let line = print_line(&text, length);
+    let line = print_line(rt, &text, length);
     TurnedDown {
         code: x.code(),
         line,
-        sentence: explain(x, name, place),
+        sentence: explain(rt, x, name, place),
     }
 }
 
-fn explain(x: Refusal, name: &[u8], place: Place) -> usize
+fn explain(rt: &HostRuntime, x: Refusal, name: &[u8], place: Place) -> usize
     ensures { result ≡ count (sentenceOf x place) }
 {
     let mut words = [0u8; SENTENCE];
     let length = sentence(x, place, &mut words);
-    say(name, name.len());
-    say(b": ", 2);
-    say(&words, length)
+    say(rt, name, name.len());
+    say(rt, b": ", 2);
+    say(rt, &words, length)
 }

@@ -4,8 +4,9 @@
 ghost use Rattle.std.specs.Prelude.{◌≡◌, take, length as count};
 ghost use Rattle.console_print.specs.Handed.{Hands, usage_line};
 
+use console_failures::fail;
 use console_places::part::first;
-use libc::{STDERR_FILENO, STDOUT_FILENO};
+use std::io::{Print, Write};
 
 // How many bytes were handed over, and whether the output took them. Where it did not, standard error has the reason.
 #[derive(Clone, Copy)]
@@ -15,40 +16,46 @@ pub struct Printed {
 }
 
 // Prints the first bytes of a buffer.
-pub fn print(text: &[u8], length: usize) -> Printed
+pub fn print(rt: &HostRuntime, text: &[u8], length: usize) -> Printed
     ensures { Hands (take length text.now) result }
 {
-    let printed = hand_over(STDOUT_FILENO, first(text, length));
-    if !printed.written {
-        os::fail(b"standard output");
-    }
-    printed
+    hand_over(rt, first(text, length))
 }
 
 // Prints the first bytes of a buffer on standard error.
-pub fn say(text: &[u8], length: usize) -> usize
+pub fn say(rt: &HostRuntime, text: &[u8], length: usize) -> usize
     ensures { result ≡ count (take length text.now) }
 {
-    let said = hand_over(STDERR_FILENO, first(text, length));
-    said.length
+    mention(rt, first(text, length))
 }
 
 // How a program is called, on standard error.
-pub fn usage(call: &[u8]) -> usize
+pub fn usage(rt: &HostRuntime, call: &[u8]) -> usize
     ensures { result ≡ count (usage_line call.now) }
 {
-    let front = hand_over(STDERR_FILENO, b"usage: ");
-    let middle = hand_over(STDERR_FILENO, call);
-    let back = hand_over(STDERR_FILENO, b"\n");
-    front.length + middle.length + back.length
+    let front = mention(rt, b"usage: ");
+    let middle = mention(rt, call);
+    let back = mention(rt, b"\n");
+    front + middle + back
 }
 
-fn hand_over(fd: i32, text: &[u8]) -> Printed
+fn hand_over(rt: &HostRuntime, text: &[u8]) -> Printed
     ensures { Hands text.now result }
 {
-    let written = io::write_all(fd, text);
+    let taken = rt.stdout().write_all(text);
+    let written = taken.is_ok();
+    if let Err(why) = taken {
+        fail(rt, b"standard output", why);
+    }
     Printed {
         written,
         length: text.len(),
     }
+}
+
+fn mention(rt: &HostRuntime, text: &[u8]) -> usize
+    ensures { result ≡ count text.now }
+{
+    let _taken = rt.stderr().write_all(text).is_ok();
+    text.len()
 }

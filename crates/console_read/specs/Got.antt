@@ -1,7 +1,6 @@
 -- DEFINITION: how much was read into a lent buffer, by what the system's calls answered. Which bytes a file or an argument has, and so which answers come, no
 -- contract can say; what is told of them is fixed here.
 use Rattle.std.specs.Prelude.{◌≡◌, true, false, List, [], ◌∷◌, ℕ, ◌+◌, ◌-◌, ◌≤◌, ◌<◌, ℤ, pos, negsuc}
-use Rattle.libc.specs.Io.{Moved}
 use Rattle.console_read.specs.declared.Got.{Got}
 
 abbrev pub whole : ℕ → Got
@@ -10,6 +9,11 @@ whole k = record { whole = true; length = k }
 -- a call failed after k bytes
 abbrev pub cut : ℕ → Got
 cut k = record { whole = false; length = k }
+
+-- what a call that is handed n bytes may answer: -1, or how many bytes it moved, at most n
+abbrev pub Moved : ℕ → ℤ → Type 0
+Moved n (pos k) = k ≤ n
+Moved n (negsuc k) = k ≡ 0
 
 -- of one call of POSIX's read: "it answers -1, or how many bytes it put at the start of buf, 0 at the end of the input"
 abbrev pub told : ℤ → Got

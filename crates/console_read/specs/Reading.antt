@@ -1,11 +1,14 @@
 -- Laws of what was read: how many bytes, and one call more.
-use Rattle.std.specs.Prelude.{◌≡◌, refl, true, false, List, [], ◌∷◌, ℕ, zero, suc, ◌+◌, ◌-◌, ◌≤◌, ◌<◌, ℤ, pos, negsuc}
+use Rattle.std.specs.Prelude.{◌≡◌, refl, true, false, List, [], ◌∷◌, ℕ, zero, suc, ◌+◌, ◌-◌, ◌≤◌, ◌<◌, min, ℤ, pos, negsuc}
 use Rattle.std.proofs.Common.{sym, ap, ◌∙◌, subst, true≢false, arith, ltb-true}
 use Rattle.std.specs.Int.Signed.{lt_z}
-use Rattle.libc.specs.Io.{Moved}
-use Rattle.io.specs.Counts.{clamp_len}
 use Rattle.console_read.specs.declared.Got.{Got}
-use Rattle.console_read.specs.Got.{whole, cut, told, ReadOnce, Fills, full, ends, fails, more, InputRead, FileRead, unopened, opened}
+use Rattle.console_read.specs.Got.{whole, cut, told, Moved, ReadOnce, Fills, full, ends, fails, more, InputRead, FileRead, unopened, opened}
+
+-- what a call of C's returned, brought into `0..=most`
+abbrev pub clamp_len : ℤ → ℕ → ℕ
+clamp_len (pos k) most = min k most
+clamp_len (negsuc k) most = 0
 
 -- ---- one call
 

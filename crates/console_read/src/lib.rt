@@ -2,10 +2,14 @@
 // calls answered.
 #![tactic(auto)]
 
-ghost use Rattle.std.specs.Prelude.{◌≡◌, length};
-ghost use Rattle.console_read.specs.Got.{cut, ReadOnce, InputRead, FileRead, ArgumentRead};
+ghost use Rattle.std.specs.Prelude.{◌≡◌, ◌≤◌, length};
+ghost use Rattle.console_read.specs.Got.{whole, cut, ReadOnce, InputRead, FileRead, ArgumentRead};
 
-use libc::STDIN_FILENO;
+use console_failures::fail;
+use std::env::{Env, FillError};
+use std::fs::File;
+use std::io::Read;
+use std::str;
 
 // How much was read. Where it is not whole, standard error has the reason.
 #[derive(Clone, Copy)]
@@ -14,47 +18,96 @@ pub struct Got {
     pub length: usize,
 }
 
+// How many arguments there are, with the program's name.
+pub fn argument_count(rt: &HostRuntime) -> usize {
+    let mut byte = [0u8; 1];
+    for i in 0..usize::MAX {
+        if let Err(FillError::NotPresent) = rt.arg(i, &mut byte) {
+            return i;
+        }
+    }
+    usize::MAX
+}
+
+// How long an argument is that stands in the buffer; 0 where there is none, or where it is too long.
+pub fn argument_or_empty(rt: &HostRuntime, i: usize, word: &mut [u8]) -> usize
+    ensures { result ≤ length word.new }
+{
+    match rt.arg(i, word) {
+        Ok(count) => count,
+        Err(_) => 0,
+    }
+}
+
+// 4,096 zeros, which hold any path.
+pub fn buffer() -> [u8; 4096]
+    ensures { 4096 ≡ length result }
+{
+    [0; 4096]
+}
+
+// 65,536 zeros, a piece of a long text.
+pub fn large_buffer() -> [u8; 65536]
+    ensures { 65536 ≡ length result }
+{
+    [0; 65536]
+}
+
 // An argument, as it was given.
-pub fn argument(i: usize, word: &mut [u8]) -> Got
+pub fn argument(rt: &HostRuntime, i: usize, word: &mut [u8]) -> Got
     ensures { ArgumentRead (length word.new) result }
 {
-    let length = os::arg(i, word);
-    if os::errno() != 0 {
-        os::fail(b"argument");
-        return unread();
-    }
-    Got {
-        whole: true,
-        length,
+    match rt.arg(i, word) {
+        Ok(count) => whole(count),
+        Err(FillError::NotPresent) => {
+            fail(rt, b"argument", "Invalid argument");
+            unread()
+        }
+        Err(FillError::TooLong) => {
+            fail(rt, b"argument", "File name too long");
+            unread()
+        }
     }
 }
 
-pub fn read_input(text: &mut [u8]) -> Got
+pub fn read_input(rt: &HostRuntime, text: &mut [u8]) -> Got
     ensures { InputRead (length text.new) 0 result }
 {
-    read_all(STDIN_FILENO, b"standard input", text)
+    let mut input = rt.stdin();
+    read_all(rt, &mut input, b"standard input", text)
 }
 
-pub fn read_file(path: &[u8], text: &mut [u8]) -> Got
+pub fn read_file(rt: &HostRuntime, path: &[u8], text: &mut [u8]) -> Got
     ensures { FileRead (length text.new) result }
 {
-    let fd = os::open_read(path);
-    if fd < 0 {
-        os::fail(path);
-        return unread();
+    match open(rt, path) {
+        Some(mut file) => read_all(rt, &mut file, path, text),
+        None => unread(),
     }
-    let got = read_all(fd, path, text);
-    libc::close(fd);
-    got
+}
+
+// A path is text: a name that is not is told as one that no file has.
+pub fn open(rt: &HostRuntime, path: &[u8]) -> Option<File> {
+    let Ok(name) = str::from_utf8(path) else {
+        fail(rt, path, "No such file or directory");
+        return None;
+    };
+    match File::open(rt, name) {
+        Ok(file) => Some(file),
+        Err(why) => {
+            fail(rt, path, why);
+            None
+        }
+    }
 }
 
 // Reads until the buffer is full or the input ends.
-fn read_all(fd: i32, name: &[u8], text: &mut [u8]) -> Got
+fn read_all<R: Read>(rt: &HostRuntime, file: &mut R, name: &[u8], text: &mut [u8]) -> Got
     ensures { InputRead (length text.new) 0 result }
 {
     let mut filled: usize = 0;
     while filled < text.len() {
-        let got = read_some(fd, name, &mut text[filled..]);
+        let got = read_some(rt, file, name, &mut text[filled..]);
         if got.length == 0 {
             return Got {
                 whole: got.whole,
@@ -63,24 +116,28 @@ fn read_all(fd: i32, name: &[u8], text: &mut [u8]) -> Got
         }
         filled += got.length;
     }
-    Got {
-        whole: true,
-        length: filled,
-    }
+    whole(filled)
 }
 
 // Reads once: nothing at the end of the input.
-pub fn read_some(fd: i32, name: &[u8], part: &mut [u8]) -> Got
+pub fn read_some<R: Read>(rt: &HostRuntime, file: &mut R, name: &[u8], part: &mut [u8]) -> Got
     ensures { ReadOnce (length part.old) result }
 {
-    let got = libc::read(fd, part);
-    if got < 0 {
-        os::fail(name);
-        return unread();
+    match file.read(part) {
+        Ok(length) => whole(length),
+        Err(why) => {
+            fail(rt, name, why);
+            unread()
+        }
     }
+}
+
+fn whole(length: usize) -> Got
+    ensures { result ≡ whole length }
+{
     Got {
         whole: true,
-        length: io::count(got, part),
+        length,
     }
 }
 

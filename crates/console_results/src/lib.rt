@@ -15,18 +15,18 @@ use console_report::lasso::{WORD, word_lines};
 use hoa_write::Written;
 
 // Prints an automaton as HOA text, or its refusal.
-pub fn print_automaton(a: Automaton) -> Written
+pub fn print_automaton(rt: &HostRuntime, a: Automaton) -> Written
     ensures { HandsAutomaton a result }
 {
     let mut text = [0u8; Written::BYTES];
     let written = hoa_write::write(a, &mut text);
     match written {
         Written::Text(length) => {
-            let printed = print(&text, length);
+            let printed = print(rt, &text, length);
             Written::Text(printed.length)
         }
         Written::Refused(x) => {
-            refuse(x, b"the automaton", Place::first());
+            refuse(rt, x, b"the automaton", Place::first());
             Written::Refused(x)
         }
     }
@@ -34,6 +34,7 @@ pub fn print_automaton(a: Automaton) -> Written
 
 // Prints the two lines of a lasso word, which stands in two buffers.
 pub fn print_word(
+    rt: &HostRuntime,
     prefix: &[u8; Comparison::PREFIX],
     prefixed: usize,
     cycle: &[u8; Comparison::LOOP],
@@ -43,5 +44,5 @@ pub fn print_word(
 {
     let mut text = [0u8; WORD];
     let length = word_lines(prefix, prefixed, cycle, cycled, &mut text);
-    print(&text, length)
+    print(rt, &text, length)
 }

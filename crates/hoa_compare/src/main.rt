@@ -8,78 +8,89 @@ use console_lines::{print_line, refuse};
 use console_places::Place;
 use console_places::part::first;
 use console_print::{print, usage};
-use console_read::{argument, read_file};
+use console_read::{argument, argument_count, buffer, read_file};
 use console_report::lines;
 use console_report::lines::LINE;
 use console_results::print_word;
 use refusals::Refusal;
 
-fn main() {
-    if os::arg_count() != 3 {
-        usage(b"hoa_compare FIRST SECOND");
+fn main(rt: HostRuntime) {
+    let rt = &rt;
+    if argument_count(rt) != 3 {
+        usage(rt, b"hoa_compare FIRST SECOND");
         return;
     }
-    let mut one = io::buffer();
-    let one_got = argument(1, &mut one);
+    let mut one = buffer();
+    let one_got = argument(rt, 1, &mut one);
     if !one_got.whole {
         return;
     }
-    let mut other = io::buffer();
-    let other_got = argument(2, &mut other);
+    let mut other = buffer();
+    let other_got = argument(rt, 2, &mut other);
     if !other_got.whole {
         return;
     }
-    compare_files(first(&one, one_got.length), first(&other, other_got.length));
+    compare_files(
+        rt,
+        first(&one, one_got.length),
+        first(&other, other_got.length),
+    );
 }
 
 // Both files are read before either is judged.
-fn compare_files(one: &[u8], other: &[u8]) {
+fn compare_files(rt: &HostRuntime, one: &[u8], other: &[u8]) {
     let mut one_text = [0u8; TEXT];
-    let one_got = read_file(one, &mut one_text);
+    let one_got = read_file(rt, one, &mut one_text);
     if !one_got.whole {
         return;
     }
     let mut other_text = [0u8; TEXT];
-    let other_got = read_file(other, &mut other_text);
+    let other_got = read_file(rt, other, &mut other_text);
     if !other_got.whole {
         return;
     }
-    let one_given = judge(one, &one_text, one_got.length);
+    let one_given = judge(rt, one, &one_text, one_got.length);
     if !one_given.accepted {
         return;
     }
-    let other_given = judge(other, &other_text, other_got.length);
+    let other_given = judge(rt, other, &other_text, other_got.length);
     if !other_given.accepted {
         return;
     }
     let a = one_given.automaton;
     let b = other_given.automaton;
-    print_comparison(a, b);
+    print_comparison(rt, a, b);
 }
 
-fn print_comparison(first: Automaton, second: Automaton) {
+fn print_comparison(rt: &HostRuntime, first: Automaton, second: Automaton) {
     let mut prefix = [0u8; Comparison::PREFIX];
     let mut cycle = [0u8; Comparison::LOOP];
     let comparison = compare(first, second, &mut prefix, &mut cycle);
     match comparison {
         Comparison::Same => {
-            print(b"same\n", 5);
+            print(rt, b"same\n", 5);
         }
-        Comparison::Refused(x) => print_refusal(x, &prefix, &cycle),
+        Comparison::Refused(x) => print_refusal(rt, x, &prefix, &cycle),
     }
 }
 
 // 12 is the answer that the two differ.
-fn print_refusal(x: Refusal, prefix: &[u8; Comparison::PREFIX], cycle: &[u8; Comparison::LOOP]) {
+fn print_refusal(
+    rt: &HostRuntime,
+    x: Refusal,
+    prefix: &[u8; Comparison::PREFIX],
+    cycle: &[u8; Comparison::LOOP],
+) {
     match x {
-        Refusal::Differ(p, l) => print_difference(p, l, prefix, cycle),
+        Refusal::Differ(p, l) => print_difference(rt, p, l, prefix, cycle),
         _ => {
-            refuse(x, b"hoa_compare", Place::first());
+            refuse(rt, x, b"hoa_compare", Place::first());
         }
     }
 }
 
 fn print_difference(
+    rt: &HostRuntime,
     p: usize,
     l: usize,
     prefix: &[u8; Comparison::PREFIX],
@@ -87,8 +98,8 @@ fn print_difference(
 ) {
     let mut line = [0u8; LINE];
     let length = lines::differ(p, l, &mut line);
-    let printed = print_line(&line, length);
+    let printed = print_line(rt, &line, length);
     if printed.written {
-        print_word(prefix, p, cycle, l);
+        print_word(rt, prefix, p, cycle, l);
     }
 }

@@ -3,19 +3,21 @@
 
 use console_input::{TEXT, from_input};
 use console_print::usage;
+use console_read::argument_count;
 use console_results::print_automaton;
 
-fn main() {
-    if os::arg_count() != 1 {
-        usage(b"hoa_normalize < FILE");
+fn main(rt: HostRuntime) {
+    let rt = &rt;
+    if argument_count(rt) != 1 {
+        usage(rt, b"hoa_normalize < FILE");
         return;
     }
     let mut text = [0u8; TEXT];
-    let held = from_input(&mut text);
+    let held = from_input(rt, &mut text);
     let given = held.given;
     if !given.accepted {
         return;
     }
     let automaton = given.automaton;
-    print_automaton(automaton);
+    print_automaton(rt, automaton);
 }

@@ -14,7 +14,7 @@ use console_numerals::Number;
 use console_places::Place;
 use console_places::part::first;
 use console_profiles::{Profile, profile_of};
-use console_read::argument;
+use console_read::{argument, argument_count, buffer};
 use hoa_words::same;
 use refusals::Refusal;
 
@@ -26,33 +26,34 @@ struct Arguments {
     profile: Profile,
 }
 
-fn main() {
-    if os::arg_count() < 2 {
-        return usage();
+fn main(rt: HostRuntime) {
+    let rt = &rt;
+    if argument_count(rt) < 2 {
+        return usage(rt);
     }
-    let mut word = io::buffer();
-    let got = argument(1, &mut word);
+    let mut word = buffer();
+    let got = argument(rt, 1, &mut word);
     let job = first(&word, got.length);
-    if same(b"clauses", job) & (os::arg_count() == 7) {
-        return run(named(2), false);
+    if same(b"clauses", job) & (argument_count(rt) == 7) {
+        return run(rt, named(rt, 2), false);
     }
-    if same(b"decode", job) & (os::arg_count() == 8) {
-        return run(named(3), true);
+    if same(b"decode", job) & (argument_count(rt) == 8) {
+        return run(rt, named(rt, 3), true);
     }
-    usage();
+    usage(rt);
 }
 
 // N, M, LIST, ACCEPTANCE and MARKS, from argument `at` on.
-fn named(at: usize) -> Arguments
+fn named(rt: &HostRuntime, at: usize) -> Arguments
     requires { at ≤ 3 }
 {
-    let mut word = io::buffer();
-    let read = number(at, &mut word);
+    let mut word = buffer();
+    let read = number(rt, at, &mut word);
     let states = read.number;
     let Number::Of(n) = states else {
         return none();
     };
-    let read = number(at + 1, &mut word);
+    let read = number(rt, at + 1, &mut word);
     let sets = read.number;
     let Number::Of(m) = sets else {
         return none();
@@ -60,7 +61,7 @@ fn named(at: usize) -> Arguments
     Arguments {
         states: n as usize,
         sets: m as usize,
-        profile: words(at + 2, n as usize, m as usize),
+        profile: words(rt, at + 2, n as usize, m as usize),
     }
 }
 
@@ -72,15 +73,15 @@ fn none() -> Arguments {
     }
 }
 
-fn words(at: usize, states: usize, sets: usize) -> Profile
+fn words(rt: &HostRuntime, at: usize, states: usize, sets: usize) -> Profile
     requires { at ≤ 5 }
 {
-    let mut list = io::buffer();
-    let listed = argument(at, &mut list);
-    let mut acceptance = io::buffer();
-    let accepted = argument(at + 1, &mut acceptance);
-    let mut marks = io::buffer();
-    let marked = argument(at + 2, &mut marks);
+    let mut list = buffer();
+    let listed = argument(rt, at, &mut list);
+    let mut acceptance = buffer();
+    let accepted = argument(rt, at + 1, &mut acceptance);
+    let mut marks = buffer();
+    let marked = argument(rt, at + 2, &mut marks);
     profile_of(
         first(&list, listed.length),
         first(&acceptance, accepted.length),
@@ -91,36 +92,36 @@ fn words(at: usize, states: usize, sets: usize) -> Profile
 }
 
 // The clause file, or what standard input decodes to.
-fn run(named: Arguments, decoding: bool) {
+fn run(rt: &HostRuntime, named: Arguments, decoding: bool) {
     let profile = named.profile;
     if !is_named(profile) {
-        return usage();
+        return usage(rt);
     }
     let mut text = [0u8; TEXT];
-    let held = reference(decoding, &mut text);
+    let held = reference(rt, decoding, &mut text);
     let given = held.given;
     if !given.accepted {
         return;
     }
     let reference = given.automaton;
     match profile {
-        Profile::Of(target) => answer(reference, target, decoding),
-        _ => refuse_past(reference, named.states, named.sets),
+        Profile::Of(target) => answer(rt, reference, target, decoding),
+        _ => refuse_past(rt, reference, named.states, named.sets),
     }
 }
 
-fn reference(decoding: bool, text: &mut [u8]) -> Held {
+fn reference(rt: &HostRuntime, decoding: bool, text: &mut [u8]) -> Held {
     if decoding {
-        return from_argument(2, text);
+        return from_argument(rt, 2, text);
     }
-    from_input(text)
+    from_input(rt, text)
 }
 
-fn answer(reference: Automaton, target: Target, decoding: bool) {
+fn answer(rt: &HostRuntime, reference: Automaton, target: Target, decoding: bool) {
     if decoding {
-        decode_input(reference, target, b"hoa_profile");
+        decode_input(rt, reference, target, b"hoa_profile");
     } else {
-        print_file(reference, target, b"hoa_profile");
+        print_file(rt, reference, target, b"hoa_profile");
     }
 }
 
@@ -132,21 +133,22 @@ fn is_named(profile: Profile) -> bool {
 }
 
 // A mask that no number of sets has room for: 4, after what is said of the other sizes.
-fn refuse_past(reference: Automaton, states: usize, sets: usize) {
+fn refuse_past(rt: &HostRuntime, reference: Automaton, states: usize, sets: usize) {
     let measured = measure(reference, Target::every(states, sets));
     let answer = measured.answer;
     match answer {
         Sized::Refused(x) => {
-            refuse(x, b"hoa_profile", Place::first());
+            refuse(rt, x, b"hoa_profile", Place::first());
         }
         Sized::Of(_) => {
-            refuse(Refusal::Outside, b"hoa_profile", Place::first());
+            refuse(rt, Refusal::Outside, b"hoa_profile", Place::first());
         }
     }
 }
 
-fn usage() {
+fn usage(rt: &HostRuntime) {
     console_print::usage(
+        rt,
         b"hoa_profile clauses N M LIST ACCEPTANCE MARKS < REFERENCE, or hoa_profile decode REFERENCE N M LIST ACCEPTANCE MARKS < SOLVER-OUTPUT",
     );
 }

@@ -45,11 +45,11 @@ module _ (a : Automaton) (out : List ℕ) where
   short_answer h = record { short = λ g. (refl, refl, refl); outside = λ g. absurd (omega arith); written = λ g. absurd (omega arith) }
 
   module _ (h : hoa_room ≤ length out) where
-    pub outside_answer : {r : Bool} → (r ≡ true) ↔ Valid a → not r ≡ true → Answered a out out (Refused Outside)
+    pub outside_answer : {r : Bool} → (r ≡ true) ↔ Valid a → r ≡ false → Answered a out out (Refused Outside)
     outside_answer {r} e t = record {
       short = λ g. absurd (omega arith);
       outside = λ _ _. (refl, refl, refl);
-      written = λ _ v. absurd (true≢false (sym (e.1 v) ∙ not-true r t));
+      written = λ _ v. absurd (true≢false (sym (e.1 v) ∙ t));
     }
 
     pub text_answer : {after : List ℕ} {n : ℕ} → Valid a → Wrote out 0 (text a) after n → Answered a out after (Text n)

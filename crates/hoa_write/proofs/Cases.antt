@@ -47,12 +47,12 @@ literal_is l i e = ap (λ h. byte_if (ltb 0 i) 38 ++ (byte_if (not h) 33 ++ deci
 -- ---- a member of a set: there, or not
 
 module _ (w : String) (m : ℕ) (f : ℕ → List ℕ) (i : ℕ) {h : Bool} (e : h ≡ has m i) where
-  pub member_is : not h ≡ false → cond (ltb 0 (m % 2 ^ i)) (bytes w) [] ++ f i ≡ member_piece w m f i
-  member_is t = ap (λ b. cond b (cond (ltb 0 (m % 2 ^ i)) (bytes w) [] ++ f i) []) (sym (not-false h t) ∙ e)
+  pub member_is : h ≡ true → cond (ltb 0 (m % 2 ^ i)) (bytes w) [] ++ f i ≡ member_piece w m f i
+  member_is t = ap (λ b. cond b (cond (ltb 0 (m % 2 ^ i)) (bytes w) [] ++ f i) []) (sym t ∙ e)
 
-  pub no_member : (at : ℕ) {d : List ℕ} → not h ≡ true → at + length (member_piece w m f i) ≤ length d → Wrote d at (member_piece w m f i) d at
+  pub no_member : (at : ℕ) {d : List ℕ} → h ≡ false → at + length (member_piece w m f i) ≤ length d → Wrote d at (member_piece w m f i) d at
   no_member at {d} t g =
-      subst (λ b. Wrote d at (cond b (cond (ltb 0 (m % 2 ^ i)) (bytes w) [] ++ f i) []) d at) (sym (not-true h t) ∙ e) (wrote_none d at (omega arith))
+      subst (λ b. Wrote d at (cond b (cond (ltb 0 (m % 2 ^ i)) (bytes w) [] ++ f i) []) d at) (sym t ∙ e) (wrote_none d at (omega arith))
 
 -- ---- conditions
 

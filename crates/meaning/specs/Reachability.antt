@@ -1,5 +1,5 @@
 -- The computed answer whether a walk leads from a node to a node that passes a test is the true one.
-use Rattle.std.specs.Prelude.{◌≡◌, ◌⊎◌, ◌↔◌, List, [], ◌∷◌, Bool, true, ◌&&◌, ◌||◌, ℕ, zero, suc, ◌≤◌, ◌<◌, length}
+use Rattle.std.specs.Prelude.{◌≡◌, ◌⊎◌, ◌↔◌, List, [], ◌∷◌, Bool, true, ◌&&◌, ℕ, zero, suc, ◌≤◌, ◌<◌, length}
 use Rattle.std.proofs.Common.{ap, ◌∙◌, inl, inr, le_of_suc-le-suc, not-suc-le-zero, arith}
 use Rattle.meaning.specs.Tests.{any}
 use Rattle.meaning.specs.TestLaws.{or_left, or_right, or_cases, and_true, and_left, and_right, any_at, any_find}

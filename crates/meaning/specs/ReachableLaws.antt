@@ -1,6 +1,6 @@
 -- Laws of reachable states: what the test says, the start and one letter further, and that either all are reachable or there is a lowest that is not.
 use Rattle.std.specs.Prelude.{◌≡◌, refl, ◌⊎◌, ◌↔◌, true, false, [], ◌∷◌, ℕ, zero, suc, ◌<◌}
-use Rattle.std.proofs.Common.{sym, ap, ◌∙◌, subst, inl, inr, true≢false, not-suc-le-zero, arith}
+use Rattle.std.proofs.Common.{sym, ◌∙◌, subst, inl, inr, true≢false, not-suc-le-zero, arith}
 use Rattle.std.proofs.Math.Decide.{ℕ_discrete}
 use Rattle.meaning.specs.TestLaws.{truth}
 use Rattle.meaning.specs.Automata.{Aut, WellFormed}

@@ -23,8 +23,8 @@ use Rattle.solver_agreement.specs.Table.{table}
 use Rattle.solver_agreement.specs.Agreement.{result, failure, unended, result_of, result_at, expected, agrees}
 
 pub run_append : (last kept : ℕ) (r : Reader) (u w : List ℕ) → run last kept r (u ++ w) ≡ run last kept (run last kept r u) w
-run_append last kept r [] w = refl
-run_append last kept r (b ∷ u) w = run_append last kept (step last kept r.scan r.named b) u w
+run_append v k r [] w = refl
+run_append v k r (b ∷ u) w = run_append v k (step v k r.scan r.named b) u w
 
 module _ {a : Automaton} {τ : Target} (v : Valid a) (z : Proper τ) where
   -- for every list of pieces, and from every state in its ranges

@@ -1,18 +1,14 @@
 -- Laws of the bytes and of the steps, over plain values.
 use mathlib.Core.Path.{◌≡◌, refl, sym, ap, ◌∙◌, subst}
 use mathlib.Core.Bool.{true, false, cond}
-use mathlib.Core.List.{List, [], ◌∷◌}
 use Prim.Native.Nat.{ℕ, ◌<◌, ◌≤◌}
 use native.Mathlib.Omega.{arith}
-use denote.Enum.Declared.{tag_of, declared}
-use types.Run.{OneOf, miss}
 use borrow.Author.Tests.{eq-eqb, ne_eqb, le-leb, lt-leb}
 use Rattle.solver_scan.specs.declared.Scan.{Scan}
 use Rattle.solver_scan.specs.declared.Place.{Place}
 use Rattle.solver_scan.specs.declared.Place.TheVariants.{Start, Comment, AfterS, BeforeWord, Word, AfterWord, AfterToken, BeforeToken, AfterMinus, Digits, Ended, BadForm, BadLiteral}
-use Rattle.solver_scan.specs.contracts.Place.{enum}
 use Rattle.solver_scan.specs.SolverText.{blank, digit, digit19}
-use Rattle.solver_scan.specs.Scanning.{bad, token_byte, first_byte, place_step, at_limit, scan_byte}
+use Rattle.solver_scan.specs.Scanning.{bad, refused_at, token_byte, first_byte, place_step, at_limit, scan_byte}
 use Rattle.solver_scan.specs.Places.{taken, after_blank, after_line_feed, other_byte, space_taken, tab_taken, line_feed_taken, other_taken}
 
 -- ---- bytes
@@ -76,24 +72,42 @@ pub other_at : (s x : Scan) (b : ℕ) (p : Place) → s.place ≡ p → x ≡ ot
 other_at s x b p e q = subst (λ y. x ≡ other_byte y s b) (sym e) q
 
 -- where no such byte can stand
-abbrev pub barred : List ℕ
-barred = 2 ∷ 5 ∷ 6 ∷ 10 ∷ []
-
-pub other_barred : (s : Scan) (b : ℕ) (p : Place) → OneOf barred (tag_of (declared enum) p) → bad s ≡ other_byte p s b
+pub other_barred :
+    (s : Scan) (b : ℕ) (p : Place)
+    → (p ≡ Start → ⊥) → (p ≡ Comment → ⊥) → (p ≡ BeforeWord → ⊥) → (p ≡ Word → ⊥) → (p ≡ BeforeToken → ⊥) → (p ≡ AfterMinus → ⊥) → (p ≡ Digits → ⊥)
+    → (p ≡ BadForm → ⊥) → (p ≡ BadLiteral → ⊥)
+    → bad s ≡ other_byte p s b
 unfolding other_byte
-other_barred s b Start h = absurd (miss barred 0 tt h)
-other_barred s b Comment h = absurd (miss barred 1 tt h)
-other_barred s b AfterS h = refl
-other_barred s b BeforeWord h = absurd (miss barred 3 tt h)
-other_barred s b Word h = absurd (miss barred 4 tt h)
-other_barred s b AfterWord h = refl
-other_barred s b AfterToken h = refl
-other_barred s b BeforeToken h = absurd (miss barred 7 tt h)
-other_barred s b AfterMinus h = absurd (miss barred 8 tt h)
-other_barred s b Digits h = absurd (miss barred 9 tt h)
-other_barred s b Ended h = refl
-other_barred s b BadForm h = absurd (miss barred 11 tt h)
-other_barred s b BadLiteral h = absurd (miss barred 12 tt h)
+other_barred s b Start h1 h2 h3 h4 h5 h6 h7 h8 h9 = absurd (h1 refl)
+other_barred s b Comment h1 h2 h3 h4 h5 h6 h7 h8 h9 = absurd (h2 refl)
+other_barred s b AfterS h1 h2 h3 h4 h5 h6 h7 h8 h9 = refl
+other_barred s b BeforeWord h1 h2 h3 h4 h5 h6 h7 h8 h9 = absurd (h3 refl)
+other_barred s b Word h1 h2 h3 h4 h5 h6 h7 h8 h9 = absurd (h4 refl)
+other_barred s b AfterWord h1 h2 h3 h4 h5 h6 h7 h8 h9 = refl
+other_barred s b AfterToken h1 h2 h3 h4 h5 h6 h7 h8 h9 = refl
+other_barred s b BeforeToken h1 h2 h3 h4 h5 h6 h7 h8 h9 = absurd (h5 refl)
+other_barred s b AfterMinus h1 h2 h3 h4 h5 h6 h7 h8 h9 = absurd (h6 refl)
+other_barred s b Digits h1 h2 h3 h4 h5 h6 h7 h8 h9 = absurd (h7 refl)
+other_barred s b Ended h1 h2 h3 h4 h5 h6 h7 h8 h9 = refl
+other_barred s b BadForm h1 h2 h3 h4 h5 h6 h7 h8 h9 = absurd (h8 refl)
+other_barred s b BadLiteral h1 h2 h3 h4 h5 h6 h7 h8 h9 = absurd (h9 refl)
+
+-- every place but the two of a refused text
+pub not_refused : (p : Place) → (p ≡ BadForm → ⊥) → (p ≡ BadLiteral → ⊥) → refused_at p ≡ false
+unfolding refused_at
+not_refused Start h k = refl
+not_refused Comment h k = refl
+not_refused AfterS h k = refl
+not_refused BeforeWord h k = refl
+not_refused Word h k = refl
+not_refused AfterWord h k = refl
+not_refused AfterToken h k = refl
+not_refused BeforeToken h k = refl
+not_refused AfterMinus h k = refl
+not_refused Digits h k = refl
+not_refused Ended h k = refl
+not_refused BadForm h k = absurd (h refl)
+not_refused BadLiteral h k = absurd (k refl)
 
 -- ---- by a field of the state
 

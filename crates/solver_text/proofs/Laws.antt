@@ -5,11 +5,8 @@ use mathlib.Core.List.{List, [], ◌∷◌}
 use Prim.Native.Nat.{ℕ, ◌<◌, ◌≤◌, ◌+◌}
 use native.Mathlib.Omega.{arith}
 use native.Mathlib.Numerals.{add-one}
-use denote.Enum.Declared.{tag_of, declared}
-use types.Run.{OneOf, miss}
 use lib.ListN.{length, get_or, drop}
 use lib.Seq.{drop-cons, drop-length}
-use Rattle.solver_scan.specs.contracts.Place.{enum}
 use Rattle.solver_scan.specs.declared.Scan.{Scan}
 use Rattle.solver_scan.specs.declared.Place.{Place}
 use Rattle.solver_scan.specs.declared.Place.TheVariants.{Start, Comment, AfterS, BeforeWord, Word, AfterWord, AfterToken, BeforeToken, AfterMinus, Digits, Ended, BadForm, BadLiteral}
@@ -54,10 +51,7 @@ module _ (last kept : ℕ) (s next : Scan) (t e : List ℕ) (r : Bool) (g : Give
   literal_unfit h = rw (g.table, sym g.fit ∙ h)
 
 -- every place but the one after a digit
-abbrev pub outside : List ℕ
-outside = 0 ∷ 1 ∷ 2 ∷ 3 ∷ 4 ∷ 5 ∷ 6 ∷ 7 ∷ 8 ∷ 10 ∷ 11 ∷ 12 ∷ []
-
-pub not_inside : (p : Place) → OneOf outside (tag_of (declared enum) p) → in_literal p ≡ false
+pub not_inside : (p : Place) → (p ≡ Digits → ⊥) → in_literal p ≡ false
 unfolding in_literal
 not_inside Start h = refl
 not_inside Comment h = refl
@@ -68,38 +62,35 @@ not_inside AfterWord h = refl
 not_inside AfterToken h = refl
 not_inside BeforeToken h = refl
 not_inside AfterMinus h = refl
-not_inside Digits h = absurd (miss outside 9 tt h)
+not_inside Digits h = absurd (h refl)
 not_inside Ended h = refl
 not_inside BadForm h = refl
 not_inside BadLiteral h = refl
 
 -- every place that no blank and no line feed of a `v` line brings about
-abbrev pub apart : List ℕ
-apart = 1 ∷ 2 ∷ 3 ∷ 4 ∷ 5 ∷ 6 ∷ 8 ∷ 9 ∷ 10 ∷ 11 ∷ 12 ∷ []
-
-not_separated : (q : Place) → OneOf apart (tag_of (declared enum) q) → separated q ≡ false
+not_separated : (q : Place) → (q ≡ Start → ⊥) → (q ≡ BeforeToken → ⊥) → separated q ≡ false
 unfolding separated
-not_separated Start h = absurd (miss apart 0 tt h)
-not_separated Comment h = refl
-not_separated AfterS h = refl
-not_separated BeforeWord h = refl
-not_separated Word h = refl
-not_separated AfterWord h = refl
-not_separated AfterToken h = refl
-not_separated BeforeToken h = absurd (miss apart 7 tt h)
-not_separated AfterMinus h = refl
-not_separated Digits h = refl
-not_separated Ended h = refl
-not_separated BadForm h = refl
-not_separated BadLiteral h = refl
+not_separated Start h k = absurd (h refl)
+not_separated Comment h k = refl
+not_separated AfterS h k = refl
+not_separated BeforeWord h k = refl
+not_separated Word h k = refl
+not_separated AfterWord h k = refl
+not_separated AfterToken h k = refl
+not_separated BeforeToken h k = absurd (k refl)
+not_separated AfterMinus h k = refl
+not_separated Digits h k = refl
+not_separated Ended h k = refl
+not_separated BadForm h k = refl
+not_separated BadLiteral h k = refl
 
 pub ends_yes : (p q : Place) (r : Bool) → separated q ≡ true → r ≡ in_literal p → r ≡ ends_literal p q
 unfolding ends_literal
 ends_yes p q r h e = rw h (e ∙ by (in_literal p) (λ k. rw k) (λ k. rw k))
 
-pub ends_no : (p q : Place) → OneOf apart (tag_of (declared enum) q) → false ≡ ends_literal p q
+pub ends_no : (p q : Place) → (q ≡ Start → ⊥) → (q ≡ BeforeToken → ⊥) → false ≡ ends_literal p q
 unfolding ends_literal
-ends_no p q h = rw (not_separated q h) (by (in_literal p) (λ k. rw k) (λ k. rw k))
+ends_no p q h k = rw (not_separated q h k) (by (in_literal p) (λ e. rw e) (λ e. rw e))
 
 -- ---- the end of the text
 
@@ -115,21 +106,18 @@ module _ (last kept : ℕ) (s n : Scan) (t : List ℕ) (q : n ≡ scan_end s) wh
 -- ---- the answer
 
 -- every place but the two of a refused text
-abbrev pub unrefused : List ℕ
-unrefused = 0 ∷ 1 ∷ 2 ∷ 3 ∷ 4 ∷ 5 ∷ 6 ∷ 7 ∷ 8 ∷ 9 ∷ 10 ∷ []
-
-pub accepted : (p : Place) (at : ℕ) → OneOf unrefused (tag_of (declared enum) p) → Accepted ≡ answer_at p at
+pub accepted : (p : Place) (at : ℕ) → (p ≡ BadForm → ⊥) → (p ≡ BadLiteral → ⊥) → Accepted ≡ answer_at p at
 unfolding answer_at
-accepted Start at h = refl
-accepted Comment at h = refl
-accepted AfterS at h = refl
-accepted BeforeWord at h = refl
-accepted Word at h = refl
-accepted AfterWord at h = refl
-accepted AfterToken at h = refl
-accepted BeforeToken at h = refl
-accepted AfterMinus at h = refl
-accepted Digits at h = refl
-accepted Ended at h = refl
-accepted BadForm at h = absurd (miss unrefused 11 tt h)
-accepted BadLiteral at h = absurd (miss unrefused 12 tt h)
+accepted Start at h k = refl
+accepted Comment at h k = refl
+accepted AfterS at h k = refl
+accepted BeforeWord at h k = refl
+accepted Word at h k = refl
+accepted AfterWord at h k = refl
+accepted AfterToken at h k = refl
+accepted BeforeToken at h k = refl
+accepted AfterMinus at h k = refl
+accepted Digits at h k = refl
+accepted Ended at h k = refl
+accepted BadForm at h k = absurd (h refl)
+accepted BadLiteral at h k = absurd (k refl)

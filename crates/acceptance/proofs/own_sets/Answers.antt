@@ -1,7 +1,6 @@
 -- `own_sets` meets its contract.
 use mathlib.Core.Path.{ap}
 use lib.Dec.{leb}
-use borrow.Author.Rules.{rules}
 use Rattle.acceptance.proofs.own_sets.Goals as goal
 
 pub returns : goal.returns

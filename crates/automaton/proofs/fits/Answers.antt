@@ -1,8 +1,6 @@
 -- `fits` meets its contract.
 use mathlib.Core.Path.{sym, ◌∙◌}
-use borrow.Author.Tests.{not-true, not-false}
 use Rattle.automaton.specs.Tests.{fits}
-use borrow.Author.Rules.{rules}
 use Rattle.automaton.proofs.fits.Goals as goal
 
 pub returns-then-not-counts_fit : goal.returns-then-not-counts_fit

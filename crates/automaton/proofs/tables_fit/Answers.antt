@@ -1,7 +1,5 @@
 -- `tables_fit` meets its contract.
 use mathlib.Core.Path.{sym, ◌∙◌}
-use borrow.Author.Tests.{not-true, not-false}
-use borrow.Author.Rules.{rules}
 use Rattle.automaton.proofs.tables_fit.Goals as goal
 
 pub returns-then-not-filled : goal.returns-then-not-filled

@@ -1,9 +1,7 @@
 -- `digit_count` meets its contract: the count at each turn is where the counting has come to.
-use mathlib.Core.Path.{◌≡◌, refl, sym, ap, ◌∙◌}
-use Prim.Native.Nat.{ℕ, ◌≤◌, ◌-◌, ◌+◌, ◌^◌}
-use native.Mathlib.Omega.{arith}
+use mathlib.Core.Path.{◌≡◌}
+use Prim.Native.Nat.{◌≤◌, ◌-◌}
 use Rattle.decimal.specs.Decimal.{places}
-use Rattle.decimal.proofs.Laws.{places_here, places_past}
 use Rattle.decimal.proofs.digit_count.Given as goal
 
 abbrev pub invariant-loop-count : goal.invariant-loop-count

@@ -1,7 +1,6 @@
 -- `four_digits` meets its contract.
 use mathlib.Core.Path.{refl}
 use native.Mathlib.Omega.{arith}
-use borrow.Author.Rules.{rules}
 use Rattle.decimal.specs.Spelling.{fits_as, spells_none, spells_then}
 use Rattle.decimal.proofs.four_digits.Goals as goal
 

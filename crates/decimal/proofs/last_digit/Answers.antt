@@ -1,5 +1,4 @@
 -- `last_digit` meets its contract.
-use borrow.Author.Rules.{rules}
 use native.Mathlib.Omega.{arith}
 use Rattle.decimal.specs.Spelling.{wrote_digit}
 use Rattle.decimal.proofs.last_digit.Goals as goal

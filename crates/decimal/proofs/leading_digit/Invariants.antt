@@ -1,8 +1,5 @@
 -- `leading_digit` meets its contract: at each turn the power was taken away as often as the digit says, and goes into the rest no more often than turns are left.
-use mathlib.Core.Logic.{⊎_elim}
-use mathlib.Core.Path.{sym, subst₂}
-use native.Mathlib.Omega.{arith}
-use Rattle.decimal.proofs.Laws.{Taken, taken_none, taken_once, taken_enough, taken_all}
+use Rattle.decimal.proofs.Laws.{Taken}
 use Rattle.decimal.proofs.leading_digit.Given as goal
 
 abbrev pub invariant-loop-left : goal.invariant-loop-left

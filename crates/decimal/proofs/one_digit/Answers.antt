@@ -2,7 +2,6 @@
 use mathlib.Core.Path.{◌≡◌, ap, ◌∙◌}
 use Prim.Native.Nat.{ℕ, ◌+◌, ◌^◌, min}
 use native.Mathlib.Omega.{arith}
-use borrow.Author.Rules.{rules}
 use Rattle.decimal.specs.Digits.{ten_up}
 use Rattle.decimal.specs.Spelling.{spells_none, spells_one}
 use Rattle.decimal.proofs.one_digit.Goals as goal

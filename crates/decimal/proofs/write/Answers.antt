@@ -2,7 +2,6 @@
 use native.Mathlib.Omega.{arith}
 use Rattle.decimal.specs.Digits.{places_from, places_to, places_enough}
 use Rattle.decimal.proofs.Laws.{wrote_nothing, wrote_decimal}
-use borrow.Author.Rules.{rules}
 use Rattle.decimal.proofs.write.Goals as goal
 
 pub returns-then-size-at : goal.returns-then-size-at

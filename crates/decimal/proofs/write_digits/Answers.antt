@@ -3,7 +3,6 @@
 use mathlib.Core.Path.{◌≡◌, refl, sym}
 use Prim.Native.Nat.{ℕ, ◌<◌, min}
 use native.Mathlib.Omega.{arith}
-use borrow.Author.Rules.{rules}
 use Rattle.decimal.specs.Spelling.{fits_as, spells_none, spells_then, spells_all}
 use Rattle.decimal.proofs.write_digits.Goals as goal
 

@@ -1,6 +1,5 @@
 -- `byte` meets its contract.
 use native.Mathlib.Omega.{arith}
-use borrow.Author.Rules.{rules}
 use Rattle.decimal.specs.Writing.{wrote_one, wrote_roomy, wrote_short}
 use Rattle.pieces.proofs.byte.Goals as goal
 

@@ -1,10 +1,7 @@
 -- `copied` meets its contract: the first i bytes are written.
 use Prim.Native.Nat.{◌≤◌, ◌+◌, ◌-◌}
-use native.Mathlib.Omega.{arith}
 use lib.ListN.{length, take}
 use Rattle.decimal.specs.Wrote.{Wrote}
-use Rattle.decimal.specs.Writing.{wrote_length}
-use Rattle.pieces.proofs.Copying.{word_start, word_more, word_whole}
 use Rattle.pieces.proofs.copied.Given as goal
 
 abbrev pub invariant-loop-i : goal.invariant-loop-i

@@ -1,6 +1,5 @@
 -- `word` meets its contract.
 use native.Mathlib.Omega.{arith}
-use borrow.Author.Rules.{rules}
 use Rattle.decimal.specs.Writing.{wrote_roomy, wrote_short}
 use Rattle.pieces.proofs.word.Goals as goal
 

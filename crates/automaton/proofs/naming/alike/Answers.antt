@@ -1,14 +1,7 @@
 -- `naming::alike` meets its contract.
-use mathlib.Core.Path.{◌≡◌}
-use mathlib.Core.Bool.{true}
-use Prim.Native.Nat.{◌+◌, ◌≤◌, ◌-◌, ◌*◌}
 use native.Mathlib.Omega.{arith}
 use borrow.Author.Tests.{eq-eqb, ne_eqb}
-use lib.ListN.{get_or}
 use Rattle.automaton.specs.Passes.{passes_none, passes_more, passes_all, fails}
-use lib.Dec.{eqb}
-use Rattle.automaton.specs.Tests.{passes}
-use borrow.Author.Rules.{rules}
 use Rattle.automaton.proofs.naming.alike.Goals as goal
 
 pub loop-i-init : goal.loop-i-init

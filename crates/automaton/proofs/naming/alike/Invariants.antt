@@ -2,13 +2,9 @@
 use mathlib.Core.Path.{◌≡◌}
 use mathlib.Core.Bool.{true}
 use Prim.Native.Nat.{◌+◌, ◌≤◌, ◌-◌, ◌*◌}
-use native.Mathlib.Omega.{arith}
-use borrow.Author.Tests.{eq-eqb, ne_eqb}
 use lib.ListN.{get_or}
-use Rattle.automaton.specs.Passes.{passes_none, passes_more, passes_all, fails}
 use lib.Dec.{eqb}
 use Rattle.automaton.specs.Tests.{passes}
-use borrow.Author.Rules.{rules}
 use Rattle.automaton.proofs.naming.alike.Given as goal
 
 abbrev pub invariant-loop-i : goal.invariant-loop-i

@@ -1,11 +1,8 @@
 -- `naming::apart` meets its contract.
-use mathlib.Core.Path.{◌≡◌, sym, ap, ◌∙◌}
-use mathlib.Core.Bool.{true, not}
-use Prim.Native.Nat.{◌≤◌, ◌-◌, ◌/◌, ◌%◌}
+use mathlib.Core.Path.{sym, ap, ◌∙◌}
+use mathlib.Core.Bool.{not}
 use native.Mathlib.Omega.{arith}
 use Rattle.automaton.specs.Passes.{passes_none, passes_more, passes_all, fails}
-use Rattle.automaton.specs.Tests.{passes, clash}
-use borrow.Author.Rules.{rules}
 use Rattle.automaton.proofs.naming.apart.Goals as goal
 
 pub loop-pair-init : goal.loop-pair-init

@@ -1,6 +1,5 @@
 -- `naming::byte_fits` meets its contract.
 use borrow.Author.Tests.{lt-ltb, le-ltb}
-use borrow.Author.Rules.{rules}
 use Rattle.automaton.proofs.naming.byte_fits.Goals as goal
 
 pub returns-then-i-length : goal.returns-then-i-length

@@ -1,13 +1,7 @@
 -- `naming::bytes_fit` meets its contract.
-use mathlib.Core.Path.{◌≡◌, sym, ◌∙◌}
-use mathlib.Core.Bool.{true}
-use Prim.Native.Nat.{◌≤◌, ◌-◌, ◌/◌}
+use mathlib.Core.Path.{sym, ◌∙◌}
 use native.Mathlib.Omega.{arith}
-use borrow.Author.Tests.{not-true, not-false}
-use lib.ListN.{get_or}
 use Rattle.automaton.specs.Passes.{passes_none, passes_more, passes_all, fails}
-use Rattle.automaton.specs.Tests.{passes, byte_fits}
-use borrow.Author.Rules.{rules}
 use Rattle.automaton.proofs.naming.bytes_fit.Goals as goal
 
 pub loop-i-init : goal.loop-i-init

@@ -1,6 +1,5 @@
 -- `naming::clash` meets its contract.
 use borrow.Author.Tests.{lt-ltb, le-ltb}
-use borrow.Author.Rules.{rules}
 use Rattle.automaton.proofs.naming.clash.Goals as goal
 
 pub returns-then-first-second : goal.returns-then-first-second

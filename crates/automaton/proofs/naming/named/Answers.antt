@@ -1,7 +1,5 @@
 -- `naming::named` meets its contract.
 use mathlib.Core.Path.{sym, ◌∙◌}
-use borrow.Author.Tests.{not-true, not-false}
-use borrow.Author.Rules.{rules}
 use Rattle.automaton.proofs.naming.named.Goals as goal
 
 pub returns-then-not-lengths_fit : goal.returns-then-not-lengths_fit

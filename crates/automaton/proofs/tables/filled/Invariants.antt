@@ -1,13 +1,9 @@
 -- `tables::filled` meets its contract.
-use mathlib.Core.Path.{◌≡◌, sym, ◌∙◌}
+use mathlib.Core.Path.{◌≡◌}
 use mathlib.Core.Bool.{true}
 use Prim.Native.Nat.{◌≤◌, ◌-◌}
-use native.Mathlib.Omega.{arith}
-use borrow.Author.Tests.{not-true, not-false}
 use lib.ListN.{get_or}
-use Rattle.automaton.specs.Passes.{passes_none, passes_more, passes_all, fails}
 use Rattle.automaton.specs.Tests.{passes, entry_fits}
-use borrow.Author.Rules.{rules}
 use Rattle.automaton.proofs.tables.filled.Given as goal
 
 abbrev pub invariant-loop-i : goal.invariant-loop-i

@@ -1,6 +1,5 @@
 -- `sets::below` meets its contract.
 use native.Mathlib.Omega.{arith}
-use borrow.Author.Rules.{rules}
 use Rattle.bits.specs.Members.{shift_some, below_low, below_all}
 use Rattle.bits.proofs.sets.below.Goals as goal
 

@@ -1,7 +1,6 @@
 -- `sets::has` meets its contract.
 use mathlib.Core.Path.{sym}
 use native.Mathlib.Omega.{arith}
-use borrow.Author.Rules.{rules}
 use Rattle.meaning.specs.BitSetLaws.{has_test}
 use Rattle.bits.specs.SetLaws.{has_past}
 use Rattle.bits.proofs.sets.has.Goals as goal

@@ -1,11 +1,7 @@
 -- `sets::lowest` meets its contract.
-use mathlib.Core.Path.{◌≡◌, sym, ◌∙◌}
-use mathlib.Core.Bool.{false}
-use Prim.Native.Nat.{ℕ, ◌≤◌, ◌<◌, ◌-◌}
+use mathlib.Core.Path.{sym, ◌∙◌}
 use native.Mathlib.Omega.{arith}
 use borrow.Author.Count.{below_more}
-use borrow.Author.Rules.{rules}
-use Rattle.meaning.specs.BitSet.{has}
 use Rattle.bits.proofs.sets.lowest.Goals as goal
 
 pub loop-i-init : goal.loop-i-init

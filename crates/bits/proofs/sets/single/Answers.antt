@@ -1,6 +1,5 @@
 -- `sets::single` meets its contract.
 use native.Mathlib.Omega.{arith}
-use borrow.Author.Rules.{rules}
 use Rattle.bits.specs.SetLaws.{single_past, shifted}
 use Rattle.bits.proofs.sets.single.Goals as goal
 

@@ -1,0 +1,15 @@
+-- `verdicts::judge_all` meets its contract.
+use mathlib.Core.Path.{sym, ap₂, ◌∙◌}
+use Prim.Native.Nat.{◌-◌, ◌/◌, ◌%◌}
+use native.Mathlib.Omega.{arith}
+use Rattle.meaning.specs.BitSet.{has}
+use Rattle.compare.specs.Verdicts.{unlike}
+use Rattle.meaning.specs.CountingLaws.{Filled, filled_none, filled_more}
+use borrow.Author.Rules.{rules}
+use Rattle.compare.proofs.verdicts.judge_all.Given as goal
+
+abbrev pub invariant-loop-m : goal.invariant-loop-m
+invariant-loop-m l = Filled (λ k. unlike (has l.first (k / 16)) (has l.second (k % 16))) 256 l.hits l.m
+
+abbrev pub decreases-loop-m : goal.decreases-loop-m
+decreases-loop-m l = 256 - l.m

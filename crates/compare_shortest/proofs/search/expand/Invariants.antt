@@ -1,0 +1,17 @@
+-- `search::expand` meets its contract.
+use mathlib.Core.Path.{sym, ap, ◌∙◌}
+use Prim.Native.Nat.{◌-◌}
+use native.Mathlib.Omega.{arith}
+use borrow.Author.Rules.{rules}
+use Rattle.compare_shortest.specs.Graph.{at, succ, Nodes}
+use Rattle.compare_shortest.specs.Packing.{node_of}
+use Rattle.compare_shortest.specs.State.{depth_lt}
+use Rattle.compare_shortest.specs.Expanding.{Expanding, place_small, expand_none, expand_one, expanded}
+use Rattle.compare_shortest.proofs.search.expand.Given as goal
+
+abbrev pub invariant-loop-letter : goal.invariant-loop-letter
+invariant-loop-letter l =
+    Expanding l.table l.initial.places l.seen l.places l.letters (node_of (at l.initial.places 0)) l.count l.n l.here l.letter
+
+abbrev pub decreases-loop-letter : goal.decreases-loop-letter
+decreases-loop-letter l = l.letters - l.letter

@@ -1,0 +1,17 @@
+-- `word::write_word` meets its contract.
+use mathlib.Core.Path.{◌≡◌, refl}
+use mathlib.Core.List.{◌++◌}
+use Prim.Native.Nat.{◌<◌}
+use native.Mathlib.Omega.{arith}
+use lib.ListN.{length, drop, length-set}
+use Rattle.compare_shortest.specs.SearchWords.{back}
+use Rattle.compare_shortest.specs.ReadBack.{Reading, read_within, read_one, read_all}
+use Rattle.compare_shortest.specs.Packing.{view}
+use Rattle.compare_shortest.proofs.word.write_word.Given as goal
+
+abbrev pub invariant-loop-left : goal.invariant-loop-left
+invariant-loop-left l =
+    Reading (view l.places).edge (length l.places) (back (view l.places).edge l.depth l.place ++ drop l.depth l.initial.out) l.out l.left l.k × (length l.out ≡ length l.initial.out)
+
+abbrev pub decreases-loop-left : goal.decreases-loop-left
+decreases-loop-left l = l.left

@@ -1,0 +1,20 @@
+-- `bytes::skip_blanks` meets its contract.
+use Prim.Native.Nat.{◌-◌}
+use lib.ListN.{length}
+use borrow.Author.Tests.{not-true, not-false}
+use mathlib.Core.Path.{sym, ◌∙◌}
+use Rattle.hoa_tokens.proofs.Laws.{Passed, passed_none, passed_more, skipped, skipped_end}
+use borrow.Author.Rules.{rules}
+use Rattle.hoa_tokens.proofs.bytes.skip_blanks.Goals as goal
+
+pub loop-i-init : goal.loop-i-init
+loop-i-init c = passed_none _ _
+
+pub returns-then-not-is_blank : goal.returns-then-not-is_blank
+returns-then-not-is_blank c = skipped c.loop-i.invariant (sym c.is_blank.ensures ∙ c.if-not-is_blank.true)
+
+pub loop-i-preserved : goal.loop-i-preserved
+loop-i-preserved c = passed_more c.loop-i.invariant c.loop-i-test.true (sym c.is_blank.ensures ∙ c.if-not-is_blank.false)
+
+pub returns : goal.returns
+returns c = skipped_end c.loop-i.invariant c.loop-i-test.false

@@ -1,0 +1,16 @@
+-- `signs::begins` meets its contract.
+use mathlib.Core.Path.{◌≡◌, sym, ◌∙◌}
+use Prim.Native.Nat.{◌+◌, ◌-◌, ◌≤◌}
+use borrow.Author.Tests.{eq-eqb, ne_eqb}
+use native.Mathlib.Nat.{add-zero, add_assoc}
+use lib.ListN.{length, drop}
+use Rattle.hoa_text.specs.Basics.{begins}
+use Rattle.hoa_tokens.proofs.Laws.{begins_step, begins_short, begins_none}
+use borrow.Author.Rules.{rules}
+use Rattle.hoa_tokens.proofs.signs.begins.Given as goal
+
+abbrev pub invariant-loop-i : goal.invariant-loop-i
+invariant-loop-i l = (l.i ≤ length l.word) × (l.at + l.i ≤ length l.text) × (begins l.word (drop l.at l.text) ≡ begins (drop l.i l.word) (drop (l.at + l.i) l.text))
+
+abbrev pub decreases-loop-i : goal.decreases-loop-i
+decreases-loop-i l = length l.word - l.i

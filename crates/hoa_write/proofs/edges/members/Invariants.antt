@@ -1,0 +1,15 @@
+-- `members` meets its contract: what is written is the first i pieces.
+use Prim.Native.Nat.{◌≤◌, ◌-◌}
+use native.Mathlib.Omega.{arith}
+use Rattle.meaning.specs.Counting.{each}
+use Rattle.decimal.specs.Wrote.{Wrote}
+use Rattle.decimal.specs.Writing.{wrote_none, wrote_length}
+use Rattle.hoa_write.specs.Pieces.{mark_piece}
+use Rattle.hoa_write.proofs.Writing.{each_more, each_room, each_whole}
+use Rattle.hoa_write.proofs.edges.members.Given as goal
+
+abbrev pub invariant-loop-i : goal.invariant-loop-i
+invariant-loop-i l = (l.i ≤ l.sets) × Wrote l.initial.out l.at (each l.i (mark_piece l.m)) l.out l.next
+
+abbrev pub decreases-loop-i : goal.decreases-loop-i
+decreases-loop-i l = l.sets - l.i

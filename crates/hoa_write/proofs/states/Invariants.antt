@@ -1,0 +1,17 @@
+-- `states` meets its contract: what is written is the lines of the first q states.
+use mathlib.Core.Path.{refl}
+use Prim.Native.Nat.{◌≤◌, ◌-◌}
+use native.Mathlib.Omega.{arith}
+use lib.ListN.{length}
+use Rattle.meaning.specs.Counting.{each}
+use Rattle.decimal.specs.Wrote.{Wrote}
+use Rattle.decimal.specs.Writing.{wrote_none, wrote_length, wrote_part}
+use Rattle.hoa_text.specs.Written.{state_lines}
+use Rattle.hoa_write.proofs.Writing.{each_more, each_room, each_whole, part_room, part_le}
+use Rattle.hoa_write.proofs.states.Given as goal
+
+abbrev pub invariant-loop-q : goal.invariant-loop-q
+invariant-loop-q l = (l.q ≤ l.a.states) × Wrote l.initial.out 0 (each l.q (state_lines l.a)) l.out l.at
+
+abbrev pub decreases-loop-q : goal.decreases-loop-q
+decreases-loop-q l = l.a.states - l.q

@@ -1,0 +1,14 @@
+-- `closure::through` meets its contract.
+use mathlib.Core.Path.{◌≡◌, subst}
+use Prim.Native.Nat.{◌-◌, ◌≤◌}
+use native.Mathlib.Omega.{arith}
+use Rattle.reach.specs.Closing.{Through}
+use Rattle.reach.proofs.Stores.{grown}
+use Rattle.reach.proofs.Closures.{through_none, through_more}
+use Rattle.reach.proofs.closure.through.Given as goal
+
+abbrev pub invariant-loop-u : goal.invariant-loop-u
+invariant-loop-u l = (l.u ≤ 16) × Through l.k l.initial.rows l.u l.rows
+
+abbrev pub decreases-loop-u : goal.decreases-loop-u
+decreases-loop-u l = 16 - l.u
