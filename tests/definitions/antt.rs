@@ -11,11 +11,11 @@ pub struct Imports {
 
 impl Imports {
     // `use PLACE.{a, b as c}`, `use PLACE as c`; only places in specs/ of a crate count, and not those that the code declares.
-    pub fn add(&mut self, krate: &str, line: &str) {
+    pub fn add(&mut self, line: &str) {
         let line = line.trim().trim_end_matches(';');
         let (place, names) = line.split_once(".{").unwrap_or((line, ""));
         let (place, alias) = place.split_once(" as ").unwrap_or((place, ""));
-        let Some(room) = room_of(krate, place.trim()) else { return };
+        let Some(room) = room_of(place.trim()) else { return };
         if !alias.is_empty() {
             self.modules.insert(alias.trim().to_string(), room.clone());
         }
@@ -29,20 +29,18 @@ impl Imports {
         if let Some(found) = self.names.get(word) {
             return Some(found.clone());
         }
-        let (alias, name) = word.split_once('.')?;
-        self.modules.get(alias).map(|room| (room.clone(), name.to_string()))
+        // a name behind the alias of a module, or a field of what a name stands for
+        let (head, rest) = word.split_once('.')?;
+        let name = rest.split('.').next().unwrap_or(rest);
+        self.modules.get(head).map(|room| (room.clone(), name.to_string())).or_else(|| self.names.get(head).cloned())
     }
 }
 
-// `Rattle·NAME.specs.Place` of another crate, `Rattle·NAME·specs.specs.Place` of the own one
-fn room_of(krate: &str, place: &str) -> Option<Room> {
-    let rest = place.strip_prefix("Rattle·")?;
-    let own = format!("{krate}·specs.specs.");
-    let (krate, module) = match rest.strip_prefix(&own) {
-        Some(module) => (krate, module),
-        None => rest.split_once(".specs.")?,
-    };
-    (!module.starts_with("declared.")).then(|| (krate.to_string(), module.to_string()))
+// `Rattle.NAME.specs.Place`
+fn room_of(place: &str) -> Option<Room> {
+    let (krate, module) = place.strip_prefix("Rattle.")?.split_once(".specs.")?;
+    let theirs = ["std", "core"].contains(&krate) || module.starts_with("declared.");
+    (!theirs).then(|| (krate.to_string(), module.to_string()))
 }
 
 // The words of a text, with brackets and points as words of their own.
@@ -121,7 +119,7 @@ struct Section {
     text: String,
 }
 
-pub fn parse(krate: &str, text: &str) -> Spec {
+pub fn parse(text: &str) -> Spec {
     let mut spec = Spec { marked: text.starts_with("-- DEFINITION"), imports: Imports::default(), items: Vec::new(), proof: usize::MAX };
     let mut sections: Vec<Section> = Vec::new();
     for (number, line) in text.lines().enumerate() {
@@ -135,7 +133,7 @@ pub fn parse(krate: &str, text: &str) -> Spec {
             continue;
         }
         if let Some(import) = code.strip_prefix("use ") {
-            spec.imports.add(krate, import);
+            spec.imports.add(import);
             continue;
         }
         if let Some(open) = sections.last_mut().filter(|s| s.inner.is_none() && !s.text.ends_with("where")) {
@@ -199,8 +197,9 @@ impl Spec {
         let Some(item) = self.items.iter().find(|item| item.name == name) else { return Vec::new() };
         let words = words(&item.text);
         let bound = bound(&words);
-        let own = |word: &String| self.items.iter().find(|i| &i.name == word && i.name != name).map(|i| (room.clone(), i.name.clone()));
-        words.iter().filter(|word| !bound.contains(*word)).filter_map(|word| self.imports.resolve(word).or_else(|| own(word))).collect()
+        let head = |word: &String| word.split('.').next().unwrap_or(word).to_string();
+        let own = |word: &String| self.items.iter().find(|i| i.name == head(word) && i.name != name).map(|i| (room.clone(), i.name.clone()));
+        words.iter().filter(|word| !bound.contains(&head(word))).filter_map(|word| self.imports.resolve(word).or_else(|| own(word))).collect()
     }
 
     pub fn laws(&self) -> Vec<&str> {

@@ -19,9 +19,9 @@ pub fn names(krate: &Path, name: &str) -> Vec<(Room, String, String)> {
 
 fn of_file(krate: &str, text: &str) -> Vec<(Room, String, String)> {
     let mut imports = Imports::default();
-    for line in text.lines() {
-        if let Some(import) = line.strip_prefix("ghost use ") {
-            imports.add(krate, import);
+    for item in text.split(';') {
+        if let Some(import) = item.trim_start().lines().skip_while(|line| !line.starts_with("ghost use ")).collect::<Vec<_>>().join(" ").strip_prefix("ghost use ") {
+            imports.add(import);
         }
     }
     let mut found = Vec::new();

@@ -41,7 +41,7 @@ fn read_specs(root: &Path) -> BTreeMap<Room, Spec> {
         for file in files(&root.join("crates").join(&krate).join("specs"), ".antt") {
             let text = fs::read_to_string(root.join("crates").join(&krate).join("specs").join(&file)).unwrap();
             let module = file.trim_end_matches(".antt").to_string();
-            specs.insert((krate.clone(), module), antt::parse(&krate, &text));
+            specs.insert((krate.clone(), module), antt::parse(&text));
         }
     }
     specs

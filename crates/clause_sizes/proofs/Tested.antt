@@ -27,29 +27,3 @@ module _ (z : Sizes) where
 
   pub letters_test : ((leb 1 z.letters && leb z.letters 16) ≡ true) ↔ ((1 ≤ z.letters) × (z.letters ≤ 16))
   letters_test = both (at_most 1 z.letters) (at_most z.letters 16)
-
-  pub fitting_test : Counting 8 z.candidate → Counting 16 z.reference → 1 ≤ z.letters → z.letters ≤ 16 → z.paths.pairs ≤ 256
-      → let s = z.candidate.states * z.candidate.states * z.letters in
-      ((eqb z.steps s && eqb z.marks (s + s * z.candidate.sets)) ≡ true) ↔ Fitting z
-  fitting_test c r some le pairs =
-      let s = z.candidate.states * z.candidate.states * z.letters in
-      let t = both (equal z.steps s) (equal z.marks (s + s * z.candidate.sets)) in (
-        λ h.
-            let (a, b) = t.0 h in
-            record {
-              n_some = c.some;
-              n_le = c.states_le;
-              m_le = c.sets_le;
-              r_some = r.some;
-              r_le = r.states_le;
-              s_le = r.sets_le;
-              letters_some = some;
-              letters_le = le;
-              candidate_subsets = c.subsets_is;
-              reference_subsets = r.subsets_is;
-              steps_is = a;
-              marks_is = b ∙ ap (λ x. x + s * z.candidate.sets) (sym a);
-              pairs_le = pairs;
-            },
-        λ f. t.1 (f.steps_is, f.marks_is ∙ ap (λ x. x + s * z.candidate.sets) f.steps_is),
-      )

@@ -103,14 +103,6 @@ no_row_lem z q u p e h = subst (λ r. FirstRowOf z q u p r) (sym e) (record {
   each = λ v l. subst (λ b. NumberIfAny z (path q u p v 0 0) (cond b (0 + how_many v (has 0) * 0) 0)) (sym (has_zero v)) (no_variable z (path q u p v 0 0) (h v));
 })
 
--- the ranges of q, u and p
-pub row_test : (z : Sizes) (q u p : ℕ)
-    → (((ltb q z.candidate.states && ltb u z.reference.states) && ltb p z.candidate.states) ≡ true)
-    ↔ ((q < z.candidate.states) × (u < z.reference.states) × (p < z.candidate.states))
-row_test z q u p =
-    let t = both (both (less q z.candidate.states) (less u z.reference.states)) (less p z.candidate.states) in
-    (λ h. let ((a, b), c) = t.0 h in (a, b, c), λ (a, b, c). t.1 ((a, b), c))
-
 -- ---- a row
 
 module _ {z : Sizes} (f : Fitting z) where

@@ -6,7 +6,6 @@ pub mod Union
 pub mod SearchOrder
 pub mod Search
 pub mod SearchWords
-pub mod SearchComplete
 pub mod ReadBack
 pub mod Sizes
 pub mod Graph
@@ -14,11 +13,9 @@ pub mod Packing
 pub mod Seen
 pub mod Workspace
 pub mod State
-pub mod Expanding
 pub mod FirstHit
 pub mod Explored
 pub mod ClosestLoop
 pub mod Choice
-pub mod FirstLasso
 pub mod ProductTables
 pub mod Product

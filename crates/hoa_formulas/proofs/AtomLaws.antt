@@ -165,25 +165,6 @@ module _ (s : List ℕ) (i : ℕ) (h : (get_or s i 0 ≡ 73) ⊎ (get_or s i 0 �
     pub name_set : a ≡ Sets n → (r : FormulaRead) → Answers s i (named (sets n) (left s i)) r → Answers s i (atom (atoms_of a) (left s i)) r
     name_set e r x = answers_from s i i (omega arith) (ap (λ a. atom (atoms_of a) (left s i)) e ∙ name_atom (sets n)) r x
 
--- ---- numbers
-
-module _ (n : ℕ) (s : List ℕ) (i o v e : ℕ) (h : Reads s i (Number o v e)) where
-  pub number_read : (set : ℕ) → v < n → Satisfy set (proposition v) → Read s i (Formulas.declared n (left s i)) set e
-  number_read set l g = record {
-    formula = proposition v;
-    is = ap (Formulas.declared n) h.is ∙ rw (lt-ltb v n l);
-    members = g;
-    from = omega (arith, h.lies.from, h.lies.longer);
-    to = h.lies.to;
-  }
-
-  pub number_refused : n ≤ v → Formulas.declared n (left s i) ≡ refuses (Undeclared o)
-  number_refused l = ap (Formulas.declared n) h.is ∙ rw (le-ltb v n l)
-
-pub no_number : (n : ℕ) (s : List ℕ) (i o : ℕ) (t : Token) → Reads s i t → OneOf other_than_number (tag_of (declared enum) t) → o ≡ at (left s i)
-    → Formulas.declared n (left s i) ≡ refuses (Form o)
-no_number n s i o t h g e = ap (λ x. then x (number_given n (at (left s i)))) (number_due (left s i) o (number_missing s i t h g) e)
-
 -- ---- words
 
 pub word_lies : (s : List ℕ) (i o e : ℕ) → Reads s i (Word o e) → (o < e) × (e ≤ length s)
@@ -193,33 +174,6 @@ word_lies s i o e h = (h.lies.longer, h.lies.to)
 pub word_read : (p : Stream → Parsed Formula) (s : List ℕ) (i o e : ℕ) (r : FormulaRead) → Reads s i (Word o e)
     → Answers s o (p (stands o (Hoa.word (slice o e s)) (left s e))) r → Answers s i (p (left s i)) r
 word_read p s i o e r h g = answers_from s i o h.lies.from (ap p h.is) r g
-
-abbrev pub other_than_word : List ℕ
-other_than_word = 1 ∷ 2 ∷ 3 ∷ 4 ∷ 5 ∷ 6 ∷ 7 ∷ 8 ∷ 9 ∷ 10 ∷ []
-
--- a token that is none
-no_word : (s : List ℕ) (t : Token) → OneOf other_than_word (tag_of (declared enum) t) → (w : String) → next (is_word w) (stream s t) ≡ false
-no_word s (Word o e) g w = absurd (miss other_than_word 0 tt g)
-no_word s (Item o e) g w = refl
-no_word s (Number o v e) g w = refl
-no_word s (Quoted o e) g w = refl
-no_word s (Sign o b) g w = refl
-no_word s (Body o) g w = refl
-no_word s (End o) g w = refl
-no_word s (Abort o) g w = refl
-no_word s (Unread o e) g w = refl
-no_word s (Over o) g w = refl
-no_word s (Broken o r) g w = refl
-
-module _ (s : List ℕ) (i o : ℕ) (t : Token) (h : Reads s i t) (g : OneOf other_than_word (tag_of (declared enum) t)) (e : o ≡ at (left s i)) where
-  absent_word : (w : String) → next (is_word w) (left s i) ≡ false
-  absent_word w = ap (next (is_word w)) h.is ∙ no_word s t g w
-
-  pub no_constant_word : constant (refuses (Form (at (left s i)))) (left s i) ≡ refuses (Form o)
-  no_constant_word = no_constant (left s i) (absent_word "t") (absent_word "f") (refuses (Form (at (left s i)))) ∙ ap (λ o. refuses (Form o)) (sym e)
-
-  pub no_set_word : (m : ℕ) → named (sets m) (left s i) ≡ refuses (Form o)
-  no_set_word m = no_set (left s i) (absent_word "Inf") (absent_word "Fin") m ∙ ap (λ o. refuses (Form o)) (sym e)
 
 -- ---- `t` and `f`
 

@@ -78,18 +78,6 @@ pub record Joined (w : String) (join : Formula → Formula → Formula) (operand
   pub to : e ≤ length s
 
 module _ (w : String) (b : ℕ) (spelled : bytes w ≡ b ∷ []) (join : Formula → Formula → Formula) (operand : Stream → Parsed Formula) (shrinks : Shrinks (operation w join operand)) (s : List ℕ) (i : ℕ) where
-  pub joined_first : (set e : ℕ) → Read s i (operand (left s i)) set e → Joined w join operand s i (operands w join operand (left s i)) set e
-  joined_first set e h = record {
-    formula = h.formula;
-    is = ap (λ y. then y (repeat (operation w join operand))) h.is;
-    members = h.members;
-    from = h.from;
-    to = h.to;
-  }
-
-  pub refused_first : (r : Refusal) → operand (left s i) ≡ refuses r → operands w join operand (left s i) ≡ refuses r
-  refused_first r h = ap (λ y. then y (repeat (operation w join operand))) h
-
   module _ (x : Parsed Formula) (set e n : ℕ) (j : Joined w join operand s i x set e) (h : Behind s e b n) where
     pub joined_done : n ≡ e → Read s i x set e
     joined_done q = record {
@@ -104,11 +92,6 @@ module _ (w : String) (b : ℕ) (spelled : bytes w ≡ b ∷ []) (join : Formula
     turned q =
         rw (present w b spelled s e n h q)
         (ap (λ u. then (operand u) (λ g u. gives (again (join j.formula g) u))) (behind_it w b spelled s e n h q))
-
-    pub joined_refused : n ≢ e → (r : Refusal) → operand (left s n) ≡ refuses r → x ≡ refuses r
-    joined_refused q r k =
-        j.is ∙ repeat_refuses (operation w join operand) shrinks j.formula (left s e)
-        (turned q ∙ ap (λ y. then y (λ g u. gives (again (join j.formula g) u))) k)
 
     pub joined_again : n ≢ e → (more both m : ℕ) → (k : Read s n (operand (left s n)) more m) → Satisfy both (join j.formula k.formula) → Joined w join operand s i x both m
     joined_again q more both m k g = record {
@@ -171,11 +154,6 @@ not_an_operator (propositions k) u h = absurd (true≢false h)
 not_an_operator (sets m) u h = refl
 
 module _ (s : List ℕ) (i n : ℕ) where
-  denied_deep : (d : ℕ) (a : Atoms) → negates a ≡ true → Behind s i 33 n → n ≢ i → d ≡ 0 → unary d a (left s i) ≡ refuses (Size (n - 1))
-  denied_deep zero (propositions k) t h q e = rw (present "!" 33 refl s i n h q) (ap (λ o. refuses (Size o)) (its_offset "!" 33 refl s i n h q))
-  denied_deep zero (sets m) t h q e = absurd (false≢true t)
-  denied_deep (suc d) a t h q e = absurd (omega arith)
-
   denied_is : (d : ℕ) (a : Atoms) → negates a ≡ true → Behind s i 33 n → n ≢ i → d ≢ 0 → unary d a (left s i) ≡ then (unary (d - 1) a (left s n)) negated
   denied_is zero a t h q e = absurd (e refl)
   denied_is (suc d) (sets m) t h q e = absurd (false≢true t)
@@ -185,10 +163,6 @@ module _ (s : List ℕ) (i n : ℕ) where
       rw (present "!" 33 refl s i n h q) (ap (λ u. then (unary d a u) negated) (behind_it "!" 33 refl s i n h q) ∙ ap (λ d. then (unary d a (left s n)) negated) m)
 
   module _ (a : Atoms) (none : (negates a && next (is_sign "!") (left s i)) ≡ false) where
-    opened_deep : (d : ℕ) → Behind s i 40 n → n ≢ i → d ≡ 0 → unary d a (left s i) ≡ refuses (Size (n - 1))
-    opened_deep zero h q e = rw (none, present "(" 40 refl s i n h q) (ap (λ o. refuses (Size o)) (its_offset "(" 40 refl s i n h q))
-    opened_deep (suc d) h q e = absurd (omega arith)
-
     opened_is : (d : ℕ) → Behind s i 40 n → n ≢ i → d ≢ 0 → unary d a (left s i) ≡ then (disjunctions (unary (d - 1) a) (left s n)) closed
     opened_is zero h q e = absurd (e refl)
     opened_is (suc d) h q e =
@@ -206,15 +180,9 @@ module _ (a : Atoms) (s : List ℕ) (i o d : ℕ) (h : Skipped s i o) where
   later : o + 1 ≢ i
   later q = absurd (omega (arith, h.from))
 
-  size_at : (n : ℕ) (x : Parsed Formula) → n ≡ o → x ≡ refuses (Size n) → x ≡ refuses (Size o)
-  size_at n x e h = h ∙ ap (λ n. refuses (Size n)) e
-
   module _ (e : get_or s o 0 ≡ 33) (t : negates a ≡ true) where
     stands_not : Behind s i 33 (o + 1)
     stands_not = sign_first 33 (λ r. refl) (λ z. absurd (omega arith)) s i o h e
-
-    pub not_deep : d ≡ 0 → unary d a (left s i) ≡ refuses (Size o)
-    not_deep z = size_at (o + 1 - 1) _ (omega arith) (denied_deep s i (o + 1) d a t stands_not later z)
 
     pub not_read : d ≢ 0 → (x r : FormulaRead) → Answers s (o + 1) (unary (d - 1) a (left s (o + 1))) x → Denies x r → Answers s i (unary d a (left s i)) r
     not_read z x r g k = answers_from s i (o + 1) (omega (arith, h.from)) (denied_is s i (o + 1) d a t stands_not later z) r (k s (o + 1) _ g)
@@ -225,9 +193,6 @@ module _ (a : Atoms) (s : List ℕ) (i o d : ℕ) (h : Skipped s i o) where
 
     no_denial : (negates a && next (is_sign "!") (left s i)) ≡ false
     no_denial = no_not a (left s i) (absent "!" 33 refl s i i (sign_absent 33 s i o h (λ q. absurd (omega arith))) refl)
-
-    pub open_deep : d ≡ 0 → unary d a (left s i) ≡ refuses (Size o)
-    open_deep z = size_at (o + 1 - 1) _ (omega arith) (opened_deep s i (o + 1) a no_denial d stands_open later z)
 
     pub open_read : d ≢ 0 → (x r : FormulaRead) → Answers s (o + 1) (disjunctions (unary (d - 1) a) (left s (o + 1))) x → Closes s x r → Answers s i (unary d a (left s i)) r
     open_read z x r g k = answers_from s i (o + 1) (omega (arith, h.from)) (opened_is s i (o + 1) a no_denial d stands_open later z) r (k (o + 1) _ g)

@@ -34,6 +34,23 @@ number_missing s i t h g = ap (peek number_of) h.is ∙ go t g
     go (Over o) g = refl
     go (Broken o r) g = refl
 
+-- the same, from a match that has taken each number
+pub number_absent : (s : List ℕ) (i : ℕ) (t : Token) → Reads s i t → ((o v e : ℕ) → t ≡ Number o v e → ⊥) → peek number_of (left s i) ≡ none
+number_absent s i t h n = ap (peek number_of) h.is ∙ go t n
+  where
+    go : (t : Token) → ((o v e : ℕ) → t ≡ Number o v e → ⊥) → peek number_of (stream s t) ≡ none
+    go (Word o e) n = refl
+    go (Item o e) n = refl
+    go (Number o v e) n = absurd (n o v e refl)
+    go (Quoted o e) n = refl
+    go (Sign o b) n = refl
+    go (Body o) n = refl
+    go (End o) n = refl
+    go (Abort o) n = refl
+    go (Unread o e) n = refl
+    go (Over o) n = refl
+    go (Broken o r) n = refl
+
 -- and one is due
 pub number_due : (u : Stream) (o : ℕ) → peek number_of u ≡ none → o ≡ at u → due number_of u ≡ refuses (Form o)
 number_due u o e q = ap (λ x. option x (refuses (Form (at u))) (λ a. gives (a, rest u))) e ∙ ap (λ o. refuses (Form o)) (sym q)

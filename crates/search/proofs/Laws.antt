@@ -19,10 +19,6 @@ use Rattle.search.specs.Judged.{judged}
 pub tells : {r x : Reply} → r ≡ x → returned r.answer ≡ returned x.answer
 tells e = ap (λ (r : Reply). returned r.answer) e
 
--- a reply that leaves both buffers as they were
-pub untouched : {p l : List ℕ} {r x : Reply} → r ≡ x → (r ≡ x) × (p ≡ p) × (l ≡ l) × (returned r.answer ≡ returned x.answer)
-untouched e = (e, refl, refl, tells e)
-
 -- a table of the right size, with Inf of all sets, is answered by the comparison's promise
 module _ {s : Search} {table : Automaton} {p q l m : List ℕ} {x : Comparison} {r : Reply} (room : Room p l) (j : Admitted s table) (a : AskedFor s table)
     (i : InfOfAll table) (k : Compared table s.reference p q l m x) (e : r ≡ judged s table x) where

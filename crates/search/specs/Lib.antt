@@ -5,4 +5,3 @@ pub mod Moves
 pub mod Kept
 pub mod Lists
 pub mod Heard
-pub mod Searches

@@ -23,4 +23,3 @@ returns-then-not-z c = (λ e. absurd (false≢true e), λ f. absurd (false_not _
 
 pub returns-then-paths : goal.returns-then-paths
 returns-then-paths c = (λ e. absurd (false≢true e), λ f. absurd (omega (arith, f.pairs_le)))
-

@@ -13,9 +13,6 @@ use Rattle.clause_sizes.proofs.measure.Goals as goal
 pub returns-then-not-valid : goal.returns-then-not-valid
 returns-then-not-valid c = turned_down c.refused.ensures (outside (λ v. false_not _ (c.if-not-valid.true) (c.valid.ensures.1 v)))
 
-pub refused-requires-then-not-dimensioned : goal.refused-requires-then-not-dimensioned
-refused-requires-then-not-dimensioned c = search rules
-
 pub returns : goal.returns
 returns c =
     let valid : Valid c.args.reference = c.valid.ensures.0 c.if-not-valid.false in

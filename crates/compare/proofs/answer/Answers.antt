@@ -1,5 +1,4 @@
 -- `answer` meets its contract.
-use borrow.Author.Rules.{rules}
 use Rattle.compare.proofs.answer.Goals as goal
 
 pub returns-in-Differ : goal.returns-in-Differ

@@ -3,7 +3,6 @@
 use mathlib.Core.Path.{ap}
 use mathlib.Core.Bool.{not}
 use native.Mathlib.Omega.{arith}
-use borrow.Author.Rules.{rules}
 use Rattle.meaning.specs.TestLaws.{fails_not}
 use Rattle.compare_shortest.specs.Difference.{Fit}
 use Rattle.compare_shortest.specs.AnswerLaws.{answered_unfit, answered_fit}
@@ -21,17 +20,17 @@ returns-then-not-in_range-2 c = answered_unfit (λ f. fails_not c.in_range-2.ens
 pub first_word-requires : goal.first_word-requires
 first_word-requires c =
     let fit : Fit c.args.next_a.now c.args.marks_a.now c.args.next_b.now c.args.marks_b.now c.args.letters c.args.start_a c.args.start_b = record {
-  first = c.in_range.ensures.0 c.if-not-in_range.false;
-  second = c.in_range-2.ensures.0 c.if-not-in_range-2.false;
-  letters = c.if-letters-gt-LETTERS.false;
-} in
+      first = c.in_range.ensures.0 c.if-not-in_range.false;
+      second = c.in_range-2.ensures.0 c.if-not-in_range-2.false;
+      letters = c.if-letters-gt-LETTERS.false;
+    } in
     fit
 
 pub returns : goal.returns
 returns c =
     let fit : Fit c.args.next_a.now c.args.marks_a.now c.args.next_b.now c.args.marks_b.now c.args.letters c.args.start_a c.args.start_b = record {
-  first = c.in_range.ensures.0 c.if-not-in_range.false;
-  second = c.in_range-2.ensures.0 c.if-not-in_range-2.false;
-  letters = c.if-letters-gt-LETTERS.false;
-} in
+      first = c.in_range.ensures.0 c.if-not-in_range.false;
+      second = c.in_range-2.ensures.0 c.if-not-in_range-2.false;
+      letters = c.if-letters-gt-LETTERS.false;
+    } in
     answered_fit fit c.first_word.ensures

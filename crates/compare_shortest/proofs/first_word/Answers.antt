@@ -8,19 +8,18 @@ use Rattle.compare_shortest.specs.Product.{product_answer}
 use Rattle.compare_shortest.proofs.first_word.Goals as goal
 
 pub first_lasso-requires : goal.first_lasso-requires
-first_lasso-requires c =
-    (
-      record {
-        table_size = c.fill.ensures.plain_size;
-        hits_size = search rules;
-        seen_size = length-replicate {A = ℕ} 65536 0;
-        places_size = length-replicate {A = ℕ} 65538 0;
-        letters = c.requires.letters;
-        clear = zeros_clear 65536;
-      },
-      c.fill.ensures.table_size,
-      length-replicate {A = ℕ} 65538 0,
-    )
+first_lasso-requires c = (
+  record {
+    table_size = c.fill.ensures.plain_size;
+    hits_size = search rules;
+    seen_size = length-replicate {A = ℕ} 65536 0;
+    places_size = length-replicate {A = ℕ} 65538 0;
+    letters = c.requires.letters;
+    clear = zeros_clear 65536;
+  },
+  c.fill.ensures.table_size,
+  length-replicate {A = ℕ} 65538 0,
+)
 
 pub returns : goal.returns
 returns c =

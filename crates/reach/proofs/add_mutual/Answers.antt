@@ -20,29 +20,17 @@ offset_bounds-reached-u c = omega arith
 pub bounds-reached-u : goal.bounds-reached-u
 bounds-reached-u c = omega arith
 
-pub has-requires : goal.has-requires
-has-requires c = tt
-
 pub offset_bounds-reached-v : goal.offset_bounds-reached-v
 offset_bounds-reached-v c = omega arith
 
 pub bounds-reached-v : goal.bounds-reached-v
 bounds-reached-v c = omega arith
 
-pub has-requires-in-loop-i : goal.has-requires-in-loop-i
-has-requires-in-loop-i c = tt
-
 pub offset_bounds-rows-u : goal.offset_bounds-rows-u
 offset_bounds-rows-u c = omega arith
 
 pub bounds-rows-u : goal.bounds-rows-u
 bounds-rows-u c = omega arith
-
-pub single-requires : goal.single-requires
-single-requires c = tt
-
-pub joined-requires : goal.joined-requires
-joined-requires c = tt
 
 pub offset_bounds-rows-u-in-loop-i : goal.offset_bounds-rows-u-in-loop-i
 offset_bounds-rows-u-in-loop-i c = omega arith

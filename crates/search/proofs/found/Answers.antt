@@ -1,17 +1,18 @@
 -- `found` meets its contract.
--- what is known once 13, 4 and "finished" are past
-use mathlib.Core.Path.{refl, sym, ◌∙◌}
-use Rattle.automaton.specs.Value.{Valid}
-use Rattle.search.specs.Replies.{InRange, Admitted, AskedFor, InfOfAll, short_prefix, short_loop, outside, finished, dimensions, acceptance}
-use Rattle.meaning.specs.TestLaws.{fails_not, passes_so}
-use Rattle.search.proofs.Laws.{untouched, compared}
-use borrow.Author.Rules.{rules}
+use Rattle.std.proofs.Common.{◌∙◌}
 use Rattle.compare.specs.Compared.{Room}
+use Rattle.search.specs.Replies.{Admitted, AskedFor, InfOfAll}
+use Rattle.search.proofs.Laws.{compared}
 use Rattle.search.proofs.found.Goals as goal
 
-pub returns-then-prefix-lt-PREFIX : goal.returns-then-prefix-lt-PREFIX
-returns-then-prefix-lt-PREFIX c = short_prefix c.if-prefix-lt-PREFIX.true (untouched c.refused.ensures)
-
-pub returns-then-cycle-lt-LOOP : goal.returns-then-cycle-lt-LOOP
-returns-then-cycle-lt-LOOP c = short_loop c.if-prefix-lt-PREFIX.false c.if-cycle-lt-LOOP.true (untouched c.refused-then-cycle-lt-LOOP.ensures)
-
+pub returns : goal.returns
+returns c =
+    let room : Room c.args.prefix.now c.args.cycle.now = record { prefix_room_fits = c.if-prefix-lt-PREFIX.false; loop_room_fits = c.if-cycle-lt-LOOP.false } in
+    let admitted : Admitted c.args.search c.args.table = record {
+      in_range = c.in_range.ensures.0 c.if-not-in_range.false;
+      valid = c.valid.ensures.0 c.if-not-valid.false;
+      unfinished = c.if-search.false;
+    } in
+    let asked_for : AskedFor c.args.search c.args.table = c.asked_for.ensures.0 c.if-not-asked_for.false in
+    let inf_of_all : InfOfAll c.args.table = c.if-table-every_set.false ∙ c.every_set.ensures in
+    compared room admitted asked_for inf_of_all c.compare-comparison.ensures c.judge.ensures

@@ -3,7 +3,6 @@ use mathlib.Core.Path.{sym, ap, ◌∙◌}
 use Rattle.search.specs.declared.Answer.TheVariants.{Taken}
 use Rattle.search.specs.Replies.{replied}
 use Rattle.search.specs.Judged.{judged}
-use borrow.Author.Rules.{rules}
 use Rattle.search.proofs.judge.Goals as goal
 
 pub returns-in-Same : goal.returns-in-Same

@@ -1,7 +1,6 @@
 -- `none` meets its contract.
 use mathlib.Core.Path.{subst}
 use Rattle.search.specs.Replies.{Told}
-use borrow.Author.Rules.{rules}
 use Rattle.search.proofs.none.Goals as goal
 
 pub returns : goal.returns

@@ -1,7 +1,6 @@
 -- `unknown` meets its contract.
 use mathlib.Core.Path.{subst}
 use Rattle.search.specs.Replies.{Told}
-use borrow.Author.Rules.{rules}
 use Rattle.search.proofs.unknown.Goals as goal
 
 pub returns : goal.returns

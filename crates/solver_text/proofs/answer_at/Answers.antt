@@ -1,7 +1,6 @@
 -- `answer_at` meets its contract.
 use Rattle.solver_text.specs.Machine.{answer_at}
 use Rattle.solver_text.proofs.Laws.{accepted}
-use borrow.Author.Rules.{rules}
 use Rattle.solver_text.proofs.answer_at.Goals as goal
 
 pub returns-in-BadForm : goal.returns-in-BadForm

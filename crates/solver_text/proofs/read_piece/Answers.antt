@@ -1,7 +1,6 @@
 -- `read_piece` meets its contract.
 use mathlib.Core.Path.{ap, ◌∙◌}
 use Rattle.solver_text.specs.Machine.{told}
-use borrow.Author.Rules.{rules}
 use Rattle.solver_text.proofs.read_piece.Goals as goal
 
 pub returns : goal.returns

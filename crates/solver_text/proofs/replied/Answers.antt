@@ -2,7 +2,6 @@
 use mathlib.Core.Path.{ap}
 use Rattle.solver_text.specs.Machine.{at_rest}
 use Rattle.solver_text.specs.declared.Answer.{Answer}
-use borrow.Author.Rules.{rules}
 use Rattle.solver_text.proofs.replied.Goals as goal
 
 pub returns : goal.returns

@@ -1,11 +1,8 @@
 -- `verdicts::judge_all` meets its contract.
 use mathlib.Core.Path.{sym, ap₂, ◌∙◌}
-use Prim.Native.Nat.{◌-◌, ◌/◌, ◌%◌}
 use native.Mathlib.Omega.{arith}
-use Rattle.meaning.specs.BitSet.{has}
 use Rattle.compare.specs.Verdicts.{unlike}
-use Rattle.meaning.specs.CountingLaws.{Filled, filled_none, filled_more}
-use borrow.Author.Rules.{rules}
+use Rattle.meaning.specs.CountingLaws.{filled_none, filled_more}
 use Rattle.compare.proofs.verdicts.judge_all.Goals as goal
 
 pub loop-m-init : goal.loop-m-init

@@ -1,11 +1,8 @@
 -- `verdicts::judge_all` meets its contract.
-use mathlib.Core.Path.{sym, ap₂, ◌∙◌}
 use Prim.Native.Nat.{◌-◌, ◌/◌, ◌%◌}
-use native.Mathlib.Omega.{arith}
 use Rattle.meaning.specs.BitSet.{has}
 use Rattle.compare.specs.Verdicts.{unlike}
-use Rattle.meaning.specs.CountingLaws.{Filled, filled_none, filled_more}
-use borrow.Author.Rules.{rules}
+use Rattle.meaning.specs.CountingLaws.{Filled}
 use Rattle.compare.proofs.verdicts.judge_all.Given as goal
 
 abbrev pub invariant-loop-m : goal.invariant-loop-m

@@ -1,9 +1,8 @@
 -- `choice::choose` meets its contract.
 use mathlib.Core.Path.{sym, ◌∙◌}
-use Prim.Native.Nat.{◌-◌, ◌^◌, ◌≤◌, ◌<◌}
+use Prim.Native.Nat.{◌^◌, ◌<◌}
 use native.Mathlib.Omega.{arith}
-use Rattle.compare_shortest.specs.Workspace.{Ready}
-use Rattle.compare_shortest.specs.Choice.{Choosing, choosing_none, choosing_more, chosen}
+use Rattle.compare_shortest.specs.Choice.{choosing_none, choosing_more, chosen}
 use Rattle.compare_shortest.proofs.choice.choose.Goals as goal
 
 pub loop-i-init : goal.loop-i-init
@@ -41,12 +40,11 @@ pub loop-i-smaller : goal.loop-i-smaller
 loop-i-smaller c = omega (arith, c.loop-i-test.true)
 
 pub loop-i-preserved : goal.loop-i-preserved
-loop-i-preserved c =
-    (
-      choosing_more c.loop-i-test.true c.loop-i.invariant.0 c.node.ensures c.depth-depth.ensures c.room-most.ensures c.loop_length-least.ensures.loop_length.0 c.better-best.ensures,
-      omega (arith, c.loop-i-test.true),
-      c.loop_length-least.ensures.ready,
-    )
+loop-i-preserved c = (
+  choosing_more c.loop-i-test.true c.loop-i.invariant.0 c.node.ensures c.depth-depth.ensures c.room-most.ensures c.loop_length-least.ensures.loop_length.0 c.better-best.ensures,
+  omega (arith, c.loop-i-test.true),
+  c.loop_length-least.ensures.ready,
+)
 
 pub shape_of-seen : goal.shape_of-seen
 shape_of-seen c = c.loop-i.invariant.2.seen_size ∙ sym c.requires.0.seen_size

@@ -1,9 +1,7 @@
 -- `choice::choose` meets its contract.
-use mathlib.Core.Path.{sym, ◌∙◌}
-use Prim.Native.Nat.{◌-◌, ◌^◌, ◌≤◌, ◌<◌}
-use native.Mathlib.Omega.{arith}
+use Prim.Native.Nat.{◌-◌, ◌≤◌}
 use Rattle.compare_shortest.specs.Workspace.{Ready}
-use Rattle.compare_shortest.specs.Choice.{Choosing, choosing_none, choosing_more, chosen}
+use Rattle.compare_shortest.specs.Choice.{Choosing}
 use Rattle.compare_shortest.proofs.choice.choose.Given as goal
 
 abbrev pub invariant-loop-i : goal.invariant-loop-i

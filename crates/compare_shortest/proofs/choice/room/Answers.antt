@@ -1,6 +1,5 @@
 -- `choice::room` meets its contract.
 use native.Mathlib.Omega.{arith}
-use borrow.Author.Rules.{rules}
 use Rattle.compare_shortest.proofs.choice.room.Goals as goal
 
 pub returns-then-total-depth : goal.returns-then-total-depth

@@ -1,7 +1,6 @@
 -- `closest::loop_length` meets its contract.
 use native.Mathlib.Omega.{arith}
-use borrow.Author.Rules.{rules}
-use Rattle.compare_shortest.specs.ClosestLoop.{length_none, length_found, hit_place, loop_small}
+use Rattle.compare_shortest.proofs.ClosestLoop.{length_none, length_found, hit_place, loop_small}
 use Rattle.compare_shortest.proofs.closest.loop_length.Goals as goal
 
 pub returns-then-hit-stop : goal.returns-then-hit-stop

@@ -1,8 +1,7 @@
 -- `closest::write_loop` meets its contract.
 use mathlib.Core.Path.{refl}
 use native.Mathlib.Omega.{arith}
-use borrow.Author.Rules.{rules}
-use Rattle.compare_shortest.specs.ClosestLoop.{hit_place, loop_chain, loop_fits, written_none, written_found}
+use Rattle.compare_shortest.proofs.ClosestLoop.{hit_place, loop_chain, loop_fits, written_none, written_found}
 use Rattle.compare_shortest.proofs.closest.write_loop.Goals as goal
 
 pub search-stop-requires : goal.search-stop-requires

@@ -3,10 +3,9 @@
 use mathlib.Core.Path.{refl}
 use Prim.Native.Nat.{◌<◌}
 use native.Mathlib.Omega.{arith}
-use borrow.Author.Rules.{rules}
 use Rattle.compare_shortest.specs.Workspace.{ready_inner}
 use Rattle.compare_shortest.specs.Explored.{places_within}
-use Rattle.compare_shortest.specs.FirstLasso.{answer_none, answer_found, prefix_chain, prefix_fits}
+use Rattle.compare_shortest.proofs.FirstLasso.{answer_none, answer_found, prefix_chain, prefix_fits}
 use Rattle.compare_shortest.proofs.lasso.first_lasso.Goals as goal
 
 pub search-reached-requires : goal.search-reached-requires

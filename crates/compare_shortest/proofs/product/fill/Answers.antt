@@ -1,9 +1,7 @@
 -- `product::fill` meets its contract.
 use mathlib.Core.Path.{sym, ◌∙◌}
-use Prim.Native.Nat.{◌-◌, ◌≤◌}
 use native.Mathlib.Omega.{arith}
-use borrow.Author.Rules.{rules}
-use Rattle.compare_shortest.specs.ProductTables.{Tables, tables_none, tables_more, tables_all}
+use Rattle.compare_shortest.specs.ProductTables.{tables_none, tables_more, tables_all}
 use Rattle.compare_shortest.proofs.product.fill.Goals as goal
 
 pub loop-i-init : goal.loop-i-init

@@ -1,9 +1,6 @@
 -- `product::fill` meets its contract.
-use mathlib.Core.Path.{sym, ◌∙◌}
 use Prim.Native.Nat.{◌-◌, ◌≤◌}
-use native.Mathlib.Omega.{arith}
-use borrow.Author.Rules.{rules}
-use Rattle.compare_shortest.specs.ProductTables.{Tables, tables_none, tables_more, tables_all}
+use Rattle.compare_shortest.specs.ProductTables.{Tables}
 use Rattle.compare_shortest.proofs.product.fill.Given as goal
 
 abbrev pub invariant-loop-i : goal.invariant-loop-i

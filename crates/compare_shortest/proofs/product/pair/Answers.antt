@@ -3,7 +3,6 @@
 use mathlib.Core.Path.{refl}
 use Prim.Native.Nat.{◌+◌, ◌*◌, ◌/◌, ◌%◌, ◌<◌}
 use native.Mathlib.Omega.{arith}
-use borrow.Author.Rules.{rules}
 use Rattle.compare_shortest.specs.Graph.{at}
 use Rattle.compare_shortest.specs.ProductTables.{pair_lt}
 use Rattle.compare_shortest.proofs.product.pair.Goals as goal

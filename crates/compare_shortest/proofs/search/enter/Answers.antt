@@ -1,7 +1,6 @@
 -- `search::enter` meets its contract.
 use mathlib.Core.Path.{refl, ap}
 use lib.ListN.{set}
-use borrow.Author.Rules.{rules}
 use Rattle.compare_shortest.proofs.search.enter.Goals as goal
 
 pub returns : goal.returns

@@ -1,12 +1,9 @@
 -- `search::expand` meets its contract.
 use mathlib.Core.Path.{sym, ap, ◌∙◌}
-use Prim.Native.Nat.{◌-◌}
 use native.Mathlib.Omega.{arith}
-use borrow.Author.Rules.{rules}
-use Rattle.compare_shortest.specs.Graph.{at, succ, Nodes}
-use Rattle.compare_shortest.specs.Packing.{node_of}
+use Rattle.compare_shortest.specs.Graph.{succ, Nodes}
 use Rattle.compare_shortest.specs.State.{depth_lt}
-use Rattle.compare_shortest.specs.Expanding.{Expanding, place_small, expand_none, expand_one, expanded}
+use Rattle.compare_shortest.proofs.Expanding.{place_small, expand_none, expand_one, expanded}
 use Rattle.compare_shortest.proofs.search.expand.Goals as goal
 
 pub node-node-requires : goal.node-node-requires
@@ -36,12 +33,11 @@ pub enter-n-requires : goal.enter-n-requires
 enter-n-requires c = record {
   seen_len =
       (c.loop-letter.invariant.state.seen_size, omega (arith, c.loop-letter.invariant.state.places_size, c.loop-letter.invariant.state.limit), c.loop-letter.invariant.state.search.flag c.successor-next.result);
-  edge_bound =
-      (
-        omega (arith, place_small c.loop-letter.invariant, c.loop-letter-test.true, c.loop-letter.invariant.state.letters),
-        omega (arith, c.depth-depth.ensures, depth_lt c.requires.state c.requires.here_lt_count),
-        omega (arith, c.loop-letter.invariant.state.limit),
-      );
+  edge_bound = (
+    omega (arith, place_small c.loop-letter.invariant, c.loop-letter-test.true, c.loop-letter.invariant.state.letters),
+    omega (arith, c.depth-depth.ensures, depth_lt c.requires.state c.requires.here_lt_count),
+    omega (arith, c.loop-letter.invariant.state.limit),
+  );
 }
 
 pub overflow_add-letter : goal.overflow_add-letter

@@ -1,12 +1,8 @@
 -- `search::expand` meets its contract.
-use mathlib.Core.Path.{sym, ap, ◌∙◌}
 use Prim.Native.Nat.{◌-◌}
-use native.Mathlib.Omega.{arith}
-use borrow.Author.Rules.{rules}
-use Rattle.compare_shortest.specs.Graph.{at, succ, Nodes}
+use Rattle.compare_shortest.specs.Graph.{at}
 use Rattle.compare_shortest.specs.Packing.{node_of}
-use Rattle.compare_shortest.specs.State.{depth_lt}
-use Rattle.compare_shortest.specs.Expanding.{Expanding, place_small, expand_none, expand_one, expanded}
+use Rattle.compare_shortest.proofs.Expanding.{Expanding}
 use Rattle.compare_shortest.proofs.search.expand.Given as goal
 
 abbrev pub invariant-loop-letter : goal.invariant-loop-letter

@@ -1,11 +1,8 @@
 -- `search::explore` meets its contract.
-use mathlib.Core.Path.{sym, ◌∙◌}
 use Prim.Native.Nat.{◌-◌}
-use native.Mathlib.Omega.{arith}
 use Rattle.compare_shortest.specs.Graph.{at}
 use Rattle.compare_shortest.specs.Packing.{node_of}
-use Rattle.compare_shortest.specs.State.{re_root, at_root}
-use Rattle.compare_shortest.specs.Explored.{Exploring, Turned, exploring_root, stopped_far, stopped_end, turn}
+use Rattle.compare_shortest.proofs.Exploring.{Exploring}
 use Rattle.compare_shortest.proofs.search.explore.Given as goal
 
 abbrev pub invariant-loop-here : goal.invariant-loop-here

@@ -1,9 +1,8 @@
 -- `search::first_hit` meets its contract.
 use mathlib.Core.Path.{sym, ◌∙◌}
 use mathlib.Core.Bool.{true≢false}
-use Prim.Native.Nat.{◌-◌}
 use native.Mathlib.Omega.{arith}
-use Rattle.compare_shortest.specs.FirstHit.{Missed, missed_none, missed_more, first_here, first_none}
+use Rattle.compare_shortest.specs.FirstHit.{missed_none, missed_more, first_here, first_none}
 use Rattle.compare_shortest.proofs.search.first_hit.Goals as goal
 
 pub loop-k-init : goal.loop-k-init

@@ -1,8 +1,7 @@
 -- `search::forget` meets its contract.
 use mathlib.Core.Path.{sym, ◌∙◌}
-use Prim.Native.Nat.{◌-◌}
 use native.Mathlib.Omega.{arith}
-use Rattle.compare_shortest.specs.Seen.{SeenAt, forget_one, forgotten}
+use Rattle.compare_shortest.specs.Seen.{forget_one, forgotten}
 use Rattle.compare_shortest.proofs.search.forget.Goals as goal
 
 pub loop-k-init : goal.loop-k-init

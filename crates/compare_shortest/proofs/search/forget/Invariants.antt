@@ -1,8 +1,6 @@
 -- `search::forget` meets its contract.
-use mathlib.Core.Path.{sym, ◌∙◌}
 use Prim.Native.Nat.{◌-◌}
-use native.Mathlib.Omega.{arith}
-use Rattle.compare_shortest.specs.Seen.{SeenAt, forget_one, forgotten}
+use Rattle.compare_shortest.specs.Seen.{SeenAt}
 use Rattle.compare_shortest.proofs.search.forget.Given as goal
 
 abbrev pub invariant-loop-k : goal.invariant-loop-k

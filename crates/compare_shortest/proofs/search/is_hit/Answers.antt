@@ -1,6 +1,5 @@
 -- `search::is_hit` meets its contract.
 use mathlib.Core.Bool.{false≢true}
-use borrow.Author.Rules.{rules}
 use borrow.Author.Tests.{not-true, eqb-false, ne_eqb}
 use Rattle.compare_shortest.proofs.search.is_hit.Goals as goal
 

@@ -1,7 +1,6 @@
 -- `search::search` meets its contract.
 use mathlib.Core.Path.{◌∙◌}
 use native.Mathlib.Omega.{arith}
-use borrow.Author.Rules.{rules}
 use Rattle.compare_shortest.specs.State.{begin, re_root, node_root, seen_places}
 use Rattle.compare_shortest.specs.Explored.{searched, searched_ready}
 use Rattle.compare_shortest.proofs.search.search.Goals as goal

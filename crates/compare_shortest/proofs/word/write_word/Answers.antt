@@ -1,12 +1,9 @@
 -- `word::write_word` meets its contract.
-use mathlib.Core.Path.{◌≡◌, refl}
-use mathlib.Core.List.{◌++◌}
+use mathlib.Core.Path.{refl}
 use Prim.Native.Nat.{◌<◌}
 use native.Mathlib.Omega.{arith}
-use lib.ListN.{length, drop, length-set}
-use Rattle.compare_shortest.specs.SearchWords.{back}
-use Rattle.compare_shortest.specs.ReadBack.{Reading, read_within, read_one, read_all}
-use Rattle.compare_shortest.specs.Packing.{view}
+use lib.ListN.{length, length-set}
+use Rattle.compare_shortest.specs.ReadBack.{read_within, read_one, read_all}
 use Rattle.compare_shortest.proofs.word.write_word.Goals as goal
 
 pub loop-left-init : goal.loop-left-init

@@ -1,11 +1,9 @@
 -- `word::write_word` meets its contract.
-use mathlib.Core.Path.{◌≡◌, refl}
+use mathlib.Core.Path.{◌≡◌}
 use mathlib.Core.List.{◌++◌}
-use Prim.Native.Nat.{◌<◌}
-use native.Mathlib.Omega.{arith}
-use lib.ListN.{length, drop, length-set}
+use lib.ListN.{length, drop}
 use Rattle.compare_shortest.specs.SearchWords.{back}
-use Rattle.compare_shortest.specs.ReadBack.{Reading, read_within, read_one, read_all}
+use Rattle.compare_shortest.specs.ReadBack.{Reading}
 use Rattle.compare_shortest.specs.Packing.{view}
 use Rattle.compare_shortest.proofs.word.write_word.Given as goal
 

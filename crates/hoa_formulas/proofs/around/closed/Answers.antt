@@ -24,4 +24,4 @@ returns-in-Close c =
 
 pub returns-in_default : goal.returns-in_default
 returns-in_default c =
-    stays_open _ _ _ c.in-Members.is _ _ (no_sign _ _ c.formula_token.result c.formula_token.ensures (0 ∷ 1 ∷ 2 ∷ 3 ∷ 5 ∷ 6 ∷ 7 ∷ 8 ∷ []) c.in_default.in_default-own.keys2 41 tt) refl _ c.offset.ensures
+    stays_open _ _ _ c.in-Members.is _ _ (no_sign _ _ _ c.formula_token.ensures 41 (c.in_default.not-Close _)) refl _ c.offset.ensures

@@ -16,26 +16,17 @@ use Rattle.reach.proofs.Stores.{grown}
 use Rattle.reach.proofs.Closures.{steps_more}
 use Rattle.reach.proofs.closure.add_steps.Goals as goal
 
-pub power_of_two-letters-requires : goal.power_of_two-letters-requires
-power_of_two-letters-requires c = tt
-
 pub loop-i-init : goal.loop-i-init
 loop-i-init c = (omega arith, c.requires.1)
 
 pub bounds-a-i : goal.bounds-a-i
 bounds-a-i c = omega arith
 
-pub single-to-requires : goal.single-to-requires
-single-to-requires c = tt
-
 pub offset_bounds-rows-u : goal.offset_bounds-rows-u
 offset_bounds-rows-u c = omega arith
 
 pub bounds-rows-u : goal.bounds-rows-u
 bounds-rows-u c = omega arith
-
-pub joined-requires : goal.joined-requires
-joined-requires c = tt
 
 pub offset_bounds-rows-u-in-loop-i : goal.offset_bounds-rows-u-in-loop-i
 offset_bounds-rows-u-in-loop-i c = omega arith

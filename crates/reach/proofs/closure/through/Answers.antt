@@ -22,12 +22,6 @@ offset_bounds-rows-u c = omega arith
 pub bounds-rows-u : goal.bounds-rows-u
 bounds-rows-u c = omega arith
 
-pub has-requires : goal.has-requires
-has-requires c = tt
-
-pub joined-requires : goal.joined-requires
-joined-requires c = tt
-
 pub offset_bounds-rows-u-in-loop-u : goal.offset_bounds-rows-u-in-loop-u
 offset_bounds-rows-u-in-loop-u c = omega arith
 

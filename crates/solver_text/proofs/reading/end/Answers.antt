@@ -1,7 +1,6 @@
 -- `reading::end` meets its contract.
 use mathlib.Core.Path.{sym, ◌∙◌}
 use Rattle.solver_text.proofs.Laws.{end_literal, end_plain}
-use borrow.Author.Rules.{rules}
 use Rattle.solver_text.proofs.reading.end.Goals as goal
 
 pub returns-then-in_literal : goal.returns-then-in_literal

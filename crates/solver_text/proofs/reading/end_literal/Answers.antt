@@ -1,6 +1,5 @@
 -- `reading::end_literal` meets its contract.
 use Rattle.solver_text.proofs.Laws.{literal_fits, literal_unfit}
-use borrow.Author.Rules.{rules}
 use Rattle.solver_text.proofs.reading.end_literal.Goals as goal
 
 pub returns-then-give : goal.returns-then-give

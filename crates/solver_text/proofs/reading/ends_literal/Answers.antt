@@ -2,7 +2,6 @@
 use mathlib.Core.Path.{refl}
 use Rattle.solver_text.specs.Machine.{separated}
 use Rattle.solver_text.proofs.Laws.{ends_yes, ends_no}
-use borrow.Author.Rules.{rules}
 use Rattle.solver_text.proofs.reading.ends_literal.Goals as goal
 
 pub returns-in-Start : goal.returns-in-Start

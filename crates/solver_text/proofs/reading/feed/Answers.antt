@@ -1,9 +1,7 @@
 -- `reading::feed` meets its contract.
-use mathlib.Core.Path.{◌≡◌, refl, sym, ◌∙◌}
-use Prim.Native.Nat.{◌≤◌, ◌-◌}
+use mathlib.Core.Path.{refl, sym, ◌∙◌}
 use borrow.Author.Rules.{rules}
-use lib.ListN.{length, drop}
-use Rattle.solver_text.specs.Machine.{run, at_rest}
+use Rattle.solver_text.specs.Machine.{at_rest}
 use Rattle.solver_text.proofs.Laws.{run_more, run_all}
 use Rattle.solver_text.proofs.reading.feed.Goals as goal
 

@@ -1,10 +1,8 @@
 -- `reading::feed` meets its contract.
-use mathlib.Core.Path.{◌≡◌, refl, sym, ◌∙◌}
+use mathlib.Core.Path.{◌≡◌}
 use Prim.Native.Nat.{◌≤◌, ◌-◌}
-use borrow.Author.Rules.{rules}
 use lib.ListN.{length, drop}
 use Rattle.solver_text.specs.Machine.{run, at_rest}
-use Rattle.solver_text.proofs.Laws.{run_more, run_all}
 use Rattle.solver_text.proofs.reading.feed.Given as goal
 
 abbrev pub invariant-loop-i : goal.invariant-loop-i

@@ -1,7 +1,6 @@
 -- `reading::in_literal` meets its contract.
 use Rattle.solver_text.specs.Machine.{in_literal}
 use Rattle.solver_text.proofs.Laws.{not_inside}
-use borrow.Author.Rules.{rules}
 use Rattle.solver_text.proofs.reading.in_literal.Goals as goal
 
 pub returns-in-Digits : goal.returns-in-Digits

@@ -1,7 +1,6 @@
 -- `reading::step` meets its contract.
 use mathlib.Core.Path.{sym, ◌∙◌}
 use Rattle.solver_text.proofs.Laws.{step_ends, step_goes}
-use borrow.Author.Rules.{rules}
 use Rattle.solver_text.proofs.reading.step.Goals as goal
 
 pub returns-then-ends_literal : goal.returns-then-ends_literal

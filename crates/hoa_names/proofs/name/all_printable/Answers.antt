@@ -1,0 +1,23 @@
+-- `name::all_printable` meets its contract.
+use mathlib.Core.Path.{◌≡◌, refl, sym, ◌∙◌}
+use Prim.Native.Nat.{◌-◌, ◌≤◌}
+use native.Mathlib.Omega.{arith}
+use borrow.Author.Tests.{not-true, not-false}
+use borrow.Author.Rules.{rules}
+use lib.ListN.{length, drop}
+use Rattle.automaton.specs.Value.{printable}
+use Rattle.hoa_text.specs.Header.{all_bytes}
+use Rattle.hoa_names.proofs.Judged.{bytes_step, bytes_end}
+use Rattle.hoa_names.proofs.name.all_printable.Goals as goal
+
+pub loop-i-init : goal.loop-i-init
+loop-i-init c = (omega arith, refl)
+
+pub returns-then-not-printable : goal.returns-then-not-printable
+returns-then-not-printable c = sym (c.loop-i.invariant.1 ∙ bytes_step printable c.args.word.now c.loop-i.i c.loop-i-test.true ∙ rw (sym c.printable.ensures ∙ c.if-not-printable.true))
+
+pub loop-i-preserved : goal.loop-i-preserved
+loop-i-preserved c = (omega arith, c.loop-i.invariant.1 ∙ bytes_step printable c.args.word.now c.loop-i.i c.loop-i-test.true ∙ rw (sym c.printable.ensures ∙ c.if-not-printable.false))
+
+pub returns : goal.returns
+returns c = sym (c.loop-i.invariant.1 ∙ bytes_end printable c.args.word.now c.loop-i.i c.loop-i-test.false)
