@@ -7,7 +7,7 @@ use native.Mathlib.Omega.{arith}
 use borrow.Author.Tests.{lt-ltb, le-ltb}
 use lib.ListN.{length, get_or, set}
 use Rattle.meaning.specs.BitSet.{has}
-use Rattle.meaning.specs.Counting.{total, how_many}
+use Rattle.meaning.specs.Counting.{total}
 use Rattle.meaning.specs.CountingLaws.{Filled, filled_none, filled_more}
 use Rattle.meaning.specs.Totals.{how_many_le}
 use Rattle.bits.specs.Members.{shift_is}

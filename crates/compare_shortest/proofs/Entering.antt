@@ -1,14 +1,11 @@
 -- The edge from h by l is followed, in arrays.
-use Rattle.std.specs.Prelude.{◌≡◌, List, ℕ, suc, ◌+◌, ◌-◌, ◌*◌, ◌≤◌, ◌<◌, length, set}
+use Rattle.std.specs.Prelude.{◌≡◌, List, ℕ, suc, ◌+◌, ◌-◌, ◌*◌, ◌≤◌, ◌<◌, set}
 use Rattle.std.proofs.Common.{sym, ap, ◌∙◌, subst, add-one, arith, length-set, get_or-set_same, get_or-set_other}
 use Rattle.std.proofs.Math.Decide.{ℕ_discrete}
 use Rattle.std.proofs.lemmas.List.{set-get_or}
 use Rattle.compare_shortest.specs.Graph.{at, succ, Nodes, succ_lt}
 use Rattle.compare_shortest.specs.Search.{Search, SameAt, search_kept, place_free}
-use Rattle.compare_shortest.specs.SearchWords.{depth_le}
 use Rattle.compare_shortest.specs.Packing.{pack, node_of, edge_of, depth_of, node_pack, edge_pack, depth_pack, view}
-use Rattle.compare_shortest.specs.Seen.{SeenAt}
-use Rattle.compare_shortest.specs.Workspace.{Ready}
 use Rattle.compare_shortest.specs.State.{State}
 use Rattle.compare_shortest.proofs.SearchEdges.{edge_to_old, edge_to_new}
 

@@ -1,13 +1,11 @@
 -- The loop of the search.
-use Rattle.std.specs.Prelude.{◌≡◌, List, ℕ, ◌+◌, ◌≤◌, ◌<◌, length}
+use Rattle.std.specs.Prelude.{◌≡◌, List, ℕ, ◌+◌, ◌≤◌, ◌<◌}
 use Rattle.std.proofs.Common.{sym, ap, subst, arith}
 use Rattle.std.proofs.Math.Decide.{dec_lt, ℕ_discrete}
 use Rattle.compare_shortest.specs.Graph.{at, Hit}
 use Rattle.compare_shortest.specs.Search.{parent}
 use Rattle.compare_shortest.proofs.WordsRise.{depths_rise}
 use Rattle.compare_shortest.specs.Packing.{node_of, depth_of, view}
-use Rattle.compare_shortest.specs.Seen.{Clear}
-use Rattle.compare_shortest.specs.Workspace.{Ready}
 use Rattle.compare_shortest.specs.State.{State}
 use Rattle.compare_shortest.specs.FirstHit.{First, Missed, missed_none, first_none}
 use Rattle.compare_shortest.specs.Explored.{Explored}

@@ -1,11 +1,7 @@
 -- The words that lead to the places of a breadth-first search are in order.
-use Rattle.std.specs.Prelude.{◌≡◌, refl, List, [], ◌∷◌, ◌++◌, ℕ, zero, suc, ◌+◌, ◌*◌, ◌/◌, ◌%◌, ◌≤◌, ◌<◌, length}
-use Rattle.std.proofs.Common.{sym, ap, ◌∙◌, subst, inl, le_refl, arith, length-append}
+use Rattle.std.specs.Prelude.{◌≡◌, [], ◌∷◌, ◌++◌, ℕ, ◌+◌, ◌*◌, ◌≤◌, ◌<◌}
+use Rattle.std.proofs.Common.{ap, subst, inl, arith}
 use Rattle.std.proofs.Math.Decide.{dec_lt, ℕ_discrete}
-use Rattle.meaning.specs.Walk.{run}
-use Rattle.meaning.specs.WalkLaws.{run_append}
-use Rattle.meaning.specs.Agreement.{Over}
-use Rattle.meaning.specs.LassoWord.{over_append}
 use Rattle.compare_shortest.specs.SearchOrder.{Earlier, earlier_length, earlier_snoc, last_earlier}
 use Rattle.compare_shortest.specs.Search.{Places, parent, letter, Search}
 use Rattle.compare_shortest.specs.SearchWords.{word, length_word, place_induction, word_child}

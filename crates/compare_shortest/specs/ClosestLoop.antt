@@ -1,13 +1,7 @@
 -- The first loop at a node that is a hit, as a search from that node finds it.
-use Rattle.std.specs.Prelude.{◌≡◌, ◌⊎◌, List, ◌++◌, ℕ, ◌/◌, ◌≤◌, ◌<◌, length, drop}
-use Rattle.std.proofs.Common.{sym, ap, ◌∙◌, subst, inl, inr, arith}
-use Rattle.std.proofs.Math.Decide.{dec_lt, ℕ_discrete}
-use Rattle.compare_shortest.specs.SearchOrder.{NotLater, earlier_trans, not_later_length}
-use Rattle.compare_shortest.specs.ReadBack.{Chain, chain}
-use Rattle.compare_shortest.specs.Graph.{at, Hit, HitLoop}
-use Rattle.compare_shortest.specs.Packing.{depth_of, view}
-use Rattle.compare_shortest.specs.State.{State}
-use Rattle.compare_shortest.specs.Explored.{Explored, Searched}
+use Rattle.std.specs.Prelude.{◌≡◌, List, ◌++◌, ℕ, ◌≤◌, ◌<◌, length, drop}
+use Rattle.compare_shortest.specs.SearchOrder.{NotLater}
+use Rattle.compare_shortest.specs.Graph.{HitLoop}
 
 -- the length of a shortest loop of at most `bound` letters that is a hit, or 0 where there is none
 pub record LoopLength (D H : List ℕ) (L v bound r : ℕ) : Type 0 where

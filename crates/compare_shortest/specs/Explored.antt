@@ -1,14 +1,12 @@
 -- Where a search stops: at the first hit, or when every node within some number of letters has been found.
-use Rattle.std.specs.Prelude.{◌≡◌, List, ℕ, ◌+◌, ◌≤◌, ◌<◌, length}
-use Rattle.std.proofs.Common.{sym, ap, subst, arith}
-use Rattle.std.proofs.Math.Decide.{dec_lt, ℕ_discrete}
-use Rattle.compare_shortest.specs.Graph.{at, Hit}
-use Rattle.compare_shortest.specs.Search.{parent}
-use Rattle.compare_shortest.specs.Packing.{node_of, depth_of, view}
+use Rattle.std.specs.Prelude.{◌≡◌, List, ℕ, ◌≤◌, ◌<◌, length}
+use Rattle.std.proofs.Common.{subst, arith}
+use Rattle.compare_shortest.specs.Graph.{at}
+use Rattle.compare_shortest.specs.Packing.{depth_of}
 use Rattle.compare_shortest.specs.Seen.{Clear}
 use Rattle.compare_shortest.specs.Workspace.{Ready}
 use Rattle.compare_shortest.specs.State.{State}
-use Rattle.compare_shortest.specs.FirstHit.{First, Missed, missed_none, first_none}
+use Rattle.compare_shortest.specs.FirstHit.{First}
 
 -- n places have been found, with words of at most `bound` letters; k is the first place of a hit, or n: then all words of so many letters have been tried
 pub record Explored (D H seen places : List ℕ) (L root pair bound n k : ℕ) : Type 0 where

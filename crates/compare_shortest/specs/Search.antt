@@ -2,7 +2,7 @@
 -- which they are found. An edge is a place and a letter, as one number: 16 times the place, and the letter; edges are followed in the order of
 -- their numbers. Place 0 has the root, which counts as not seen: it may be found again, by a word of one letter or more.
 use Rattle.std.specs.Prelude.{◌≡◌, ◌≢◌, ℕ, suc, ◌+◌, ◌*◌, ◌/◌, ◌%◌, ◌≤◌, ◌<◌}
-use Rattle.std.proofs.Common.{sym, ap, ap₂, ◌∙◌, subst, arith}
+use Rattle.std.proofs.Common.{sym, ap, ap₂, ◌∙◌, arith}
 use Rattle.std.proofs.Math.Decide.{dec_lt, ℕ_discrete}
 use Rattle.meaning.specs.Pigeonhole.{Twice, pigeonhole}
 

@@ -1,12 +1,11 @@
 -- The words that lead to the places of a breadth-first search: the first words to their nodes, in the order by length and then by letters.
-use Rattle.std.specs.Prelude.{◌≡◌, refl, List, [], ◌∷◌, ◌++◌, ℕ, zero, suc, ◌+◌, ◌*◌, ◌/◌, ◌%◌, ◌≤◌, ◌<◌, length}
-use Rattle.std.proofs.Common.{sym, ap, ◌∙◌, subst, inl, le_refl, arith, length-append}
-use Rattle.std.proofs.Math.Decide.{dec_lt, ℕ_discrete}
+use Rattle.std.specs.Prelude.{◌≡◌, refl, List, [], ◌∷◌, ◌++◌, ℕ, zero, suc, ◌/◌, ◌%◌, ◌≤◌, ◌<◌, length}
+use Rattle.std.proofs.Common.{sym, ap, ◌∙◌, subst, le_refl, arith, length-append}
+use Rattle.std.proofs.Math.Decide.{ℕ_discrete}
 use Rattle.meaning.specs.Walk.{run}
 use Rattle.meaning.specs.WalkLaws.{run_append}
 use Rattle.meaning.specs.Agreement.{Over}
 use Rattle.meaning.specs.LassoWord.{over_append}
-use Rattle.compare_shortest.specs.SearchOrder.{Earlier, earlier_length, earlier_snoc, last_earlier}
 use Rattle.compare_shortest.specs.Search.{Places, parent, letter, Search}
 
 -- the last d letters of the way to the place k, as they are read back from edge to edge

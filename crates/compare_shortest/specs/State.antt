@@ -1,12 +1,10 @@
 -- A search in arrays: for each node whether it has been seen, and for each place a number.
-use Rattle.std.specs.Prelude.{◌≡◌, List, ℕ, suc, ◌+◌, ◌-◌, ◌*◌, ◌≤◌, ◌<◌, length, set}
-use Rattle.std.proofs.Common.{sym, ap, ◌∙◌, subst, add-one, arith, length-set, get_or-set_same, get_or-set_other}
-use Rattle.std.proofs.Math.Decide.{ℕ_discrete}
-use Rattle.std.proofs.lemmas.List.{set-get_or}
-use Rattle.compare_shortest.specs.Graph.{at, succ, Nodes, succ_lt}
+use Rattle.std.specs.Prelude.{◌≡◌, List, ℕ, ◌+◌, ◌≤◌, ◌<◌, length, set}
+use Rattle.std.proofs.Common.{sym, ap, ◌∙◌, subst, add-one, arith, length-set, get_or-set_same}
+use Rattle.compare_shortest.specs.Graph.{at, succ}
 use Rattle.compare_shortest.specs.Search.{Search, root_alone, edges_followed}
 use Rattle.compare_shortest.specs.SearchWords.{depth_le}
-use Rattle.compare_shortest.specs.Packing.{pack, node_of, edge_of, depth_of, node_pack, edge_pack, depth_pack, view}
+use Rattle.compare_shortest.specs.Packing.{node_of, depth_of, view}
 use Rattle.compare_shortest.specs.Seen.{SeenAt}
 use Rattle.compare_shortest.specs.Workspace.{Ready}
 

@@ -1,7 +1,7 @@
 -- The comparison is judged by its conditions.
 use Rattle.std.specs.Prelude.{◌≡◌, refl, ◌≢◌, ◌⊎◌, List, [], ℕ, length}
 use Rattle.std.proofs.Common.{sym, ap, ◌∙◌, inl, inr, arith}
-use Rattle.std.proofs.Math.Logic.{Dec·and}
+use Rattle.std.proofs.Math.Logic.Dec.{and as dec_and}
 use Rattle.std.proofs.Math.Option.{some, some_inj}
 use Rattle.std.proofs.Math.Decide.{ℕ_discrete, dec_le}
 use Rattle.automaton.specs.declared.Automaton.{Automaton}
@@ -28,7 +28,7 @@ module _ {a b : Automaton} {prefix prefix-after loop loop-after : List ℕ} {ans
     λ h. (
       dec_le loop_room (length loop),
       λ g. (
-        Dec·and (valid_decided a) (valid_decided b),
+        dec_and (valid_decided a) (valid_decided b),
         λ v. (ℕ_discrete a.propositions b.propositions, λ e. (agree_decided a b v.0 v.1 e, λ s. tt)),
       ),
     ),

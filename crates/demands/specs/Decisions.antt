@@ -2,7 +2,7 @@
 -- document 01's conditions is decided.
 use Rattle.std.specs.Prelude.{◌≡◌, refl, ◌≢◌, ◌⊎◌, Bool, true, false, List, [], ◌∷◌, ℕ, ◌^◌, leb, length, get_or}
 use Rattle.std.proofs.Common.{sym, ap, ◌∙◌, subst, inl, inr, le-leb, leb-true}
-use Rattle.std.proofs.Math.Logic.{Dec·and, Dec·of-iff}
+use Rattle.std.proofs.Math.Logic.Dec.{and as dec_and, of_iff as dec_of_iff}
 use Rattle.std.proofs.lemmas.Bool.{false≢true}
 use Rattle.std.proofs.Math.Option.{Option, none, some, some_inj, some-ne-none}
 use Rattle.std.proofs.Math.Decide.{ℕ_discrete, dec_le, dec_lt}
@@ -99,28 +99,28 @@ truth_decided false = no false≢true
 
 pub valid_decided : (a : Automaton) → Dec (Valid a)
 valid_decided a =
-    Dec·of-iff
+    dec_of_iff
     (λ (((l, n), (d, m)), f). fits_valid a l n d m f, λ v. (((v.lengths_size, v.names_size), (v.destinations_size, v.marks_size)), valid_fits a v))
-    (Dec·and
-    (Dec·and (Dec·and (ℕ_discrete (length a.lengths) 4) (ℕ_discrete (length a.names) 64))
-    (Dec·and (ℕ_discrete (length a.destinations) 256) (ℕ_discrete (length a.marks) 256)))
+    (dec_and
+    (dec_and (dec_and (ℕ_discrete (length a.lengths) 4) (ℕ_discrete (length a.names) 64))
+    (dec_and (ℕ_discrete (length a.destinations) 256) (ℕ_discrete (length a.marks) 256)))
     (truth_decided (fits a)))
 
 pub dimensioned_decided : (τ : Target) → Dec (Dimensioned τ)
 dimensioned_decided τ =
-    Dec·of-iff (λ ((s, l), k). record { n_some = s; n_le = l; m_le = k }, λ d. ((d.n_some, d.n_le), d.m_le))
-    (Dec·and (Dec·and (dec_le 1 τ.states) (dec_le τ.states 8)) (dec_le τ.sets 4))
+    dec_of_iff (λ ((s, l), k). record { n_some = s; n_le = l; m_le = k }, λ d. ((d.n_some, d.n_le), d.m_le))
+    (dec_and (dec_and (dec_le 1 τ.states) (dec_le τ.states 8)) (dec_le τ.sets 4))
 
 pub own_sets_decided : (τ : Target) → Dec (OwnSets τ.acceptance τ.sets)
 own_sets_decided τ = dec_lt τ.acceptance (2 ^ (2 ^ τ.sets))
 
 pub in_range_decided : (r : Reader) → Dec (InRange r)
 in_range_decided r =
-    Dec·of-iff (
+    dec_of_iff (
       λ ((l, v), t). record { letters_le = l; value_le = v; named_le = λ i h. leb-true _ _ (all_at 5121 (λ i. leb (get_or r.named i 0) 2) t i h) },
       λ h. ((h.letters_le, h.value_le), all_of 5121 (λ i. leb (get_or r.named i 0) 2) (λ i g. le-leb _ _ (h.named_le i g))),
     )
-    (Dec·and (Dec·and (dec_le r.scan.letters 13) (dec_le r.scan.value 2000000009)) (truth_decided (all 5121 (λ i. leb (get_or r.named i 0) 2))))
+    (dec_and (dec_and (dec_le r.scan.letters 13) (dec_le r.scan.value 2000000009)) (truth_decided (all 5121 (λ i. leb (get_or r.named i 0) 2))))
 
 pub agree_decided : (a b : Automaton) → Valid a → Valid b → a.propositions ≡ b.propositions → Dec (Agree (view a) (view b))
 agree_decided a b v w e = decide_agree (view_comparable v w e)

@@ -1,7 +1,7 @@
 -- The decoder is judged by its conditions.
 use Rattle.std.specs.Prelude.{◌≡◌, refl, ◌≢◌, ◌⊎◌, List, [], ℕ, ◌≤◌, length}
 use Rattle.std.proofs.Common.{sym, ap, ◌∙◌, subst, inl, inr, ⊎_elim, arith}
-use Rattle.std.proofs.Math.Logic.{Dec·and, Dec·not, Dec·not-not}
+use Rattle.std.proofs.Math.Logic.Dec.{and as dec_and, not as dec_not, not-not as dec_not_not}
 use Rattle.std.proofs.Math.Option.{Option, none, some, some_inj}
 use Rattle.std.proofs.Math.Decide.{dec_le}
 use Rattle.acceptance.specs.Masks.{OwnSets}
@@ -119,7 +119,7 @@ module _ {prefix prefix-after loop loop-after : List ℕ} {answer : Decoded} {a 
       λ h. (
         dec_le loop_room (length loop),
         λ g. (
-          Dec·and (valid_decided a) (in_range_decided r),
+          dec_and (valid_decided a) (in_range_decided r),
           λ v. (
             dimensioned_decided τ,
             λ z. (
@@ -127,7 +127,7 @@ module _ {prefix prefix-after loop loop-after : List ℕ} {answer : Decoded} {a 
               λ o. (
                 fault_decided (solution-said (whole a τ r).answer),
                 λ e. (
-                  Dec·not (unstated_decided (verdict_of a τ r)),
+                  dec_not (unstated_decided (verdict_of a τ r)),
                   λ k. (
                     where_satisfiable (satisfiable_decided (verdict_of a τ r)) (λ s. all_step_decided),
                     λ t. (
@@ -193,7 +193,7 @@ module _ {prefix prefix-after loop loop-after : List ℕ} {answer : Decoded} {a 
         refusal (inr (h, inr (g, inr (v, inr (z, inr (o, inl (f, e))))))) (d.text (admitted h g v (proper z o)) b w)
         (e ∙ ap (λ w. fault_code (solution-said w)) w) (text_number b w)
     result (inl (k, inr (h, inr (g, inr (v, inr (z, inr (o, inr (f, inl (u, e))))))))) =
-        refusal (inr (h, inr (g, inr (v, inr (z, inr (o, inr (f, inl (u, e)))))))) ((accepting h g v (proper z o) f).unstated ((Dec·not-not (unstated_decided (verdict_of a τ r))).0 u)) e (λ is. omega arith)
+        refusal (inr (h, inr (g, inr (v, inr (z, inr (o, inr (f, inl (u, e)))))))) ((accepting h g v (proper z o) f).unstated ((dec_not_not (unstated_decided (verdict_of a τ r))).0 u)) e (λ is. omega arith)
     result (inl (k, inr (h, inr (g, inr (v, inr (z, inr (o, inr (f, inr (u, inl (t, e)))))))))) = stuck (satisfiable_decided (verdict_of a τ r))
       where
         stuck : Dec (verdict_of a τ r ≡ Satisfiable) → Result

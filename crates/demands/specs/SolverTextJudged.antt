@@ -1,7 +1,8 @@
 -- The reader of solver text is judged by its conditions, and whole texts by their definition.
 use Rattle.std.specs.Prelude.{◌≡◌, refl, ◌⊎◌, true, List, [], ◌∷◌, ◌++◌, ℕ}
 use Rattle.std.proofs.Common.{sym, ap, ◌∙◌}
-use Rattle.std.proofs.Math.Logic.{inl, inr, Dec·and}
+use Rattle.std.proofs.Math.Logic.{inl, inr}
+use Rattle.std.proofs.Math.Logic.Dec.{and as dec_and}
 use Rattle.std.proofs.Math.Option.{none, some, some_inj}
 use Rattle.acceptance.specs.Masks.{OwnSets}
 use Rattle.automaton.specs.declared.Automaton.{Automaton}
@@ -28,7 +29,7 @@ use Rattle.demands.specs.Decisions.{Decided, fault_decided, fault_is, some_none,
 
 module _ (a : Automaton) (τ : Target) (r : Reader) (read reply : Reply) (c : Called a τ r read reply) where
   decided : Decided (to_begin a τ r ++ (no_fault (solution-said read.answer) ∷ []))
-  decided = (Dec·and (valid_decided a) (in_range_decided r), λ v. (dimensioned_decided τ, λ d. (own_sets_decided τ, λ o. (fault_decided (solution-said read.answer), λ e. tt))))
+  decided = (dec_and (valid_decided a) (in_range_decided r), λ v. (dimensioned_decided τ, λ d. (own_sets_decided τ, λ o. (fault_decided (solution-said read.answer), λ e. tt))))
 
   outside : ¬ (Valid a × InRange r) → reply ≡ refusal Outside r
   outside k = go (valid_decided a)

@@ -2,14 +2,12 @@
 use mathlib.Core.Path.{◌≡◌, refl, sym, ap, ◌∙◌, subst}
 use mathlib.Core.Logic.{◌≢◌}
 use mathlib.Core.Bool.{Bool, true, false, and-false}
-use mathlib.Core.List.{List, [], ◌∷◌}
+use mathlib.Core.List.{List}
 use Prim.Native.Nat.{ℕ, ◌+◌, ◌^◌, ◌<◌, min}
 use native.Mathlib.Omega.{arith}
 use borrow.Author.Tests.{eq-eqb, ne_eqb}
 use lib.Dec.{eqb}
 use lib.Seq.{slice}
-use denote.Enum.Declared.{tag_of, declared}
-use types.Run.{OneOf, miss}
 use Rattle.automaton.specs.declared.Automaton.{Automaton}
 use Rattle.refusals.specs.declared.Refusal.TheVariants.{Form}
 use Rattle.automaton.specs.Bytes.{bytes}
@@ -21,9 +19,7 @@ use Rattle.hoa_text.specs.Body.{Table, letters, labelled_edge, listed_edge, in_s
 use Rattle.hoa_text.specs.Body as Hoa
 use Rattle.hoa_tokens.specs.declared.Token.{Token}
 use Rattle.hoa_tokens.specs.declared.Token.TheVariants.{Word, Item, Number, Quoted, Sign, Abort, Unread, Over, Broken}
-use Rattle.hoa_tokens.specs.declared.Token.TheVariants as Token
 use Rattle.hoa_tokens.specs.Answers.{stream, Reads}
-use Rattle.hoa_tokens.specs.contracts.Token.{enum}
 use Rattle.hoa_body.specs.declared.Table as Code
 use Rattle.hoa_body.specs.declared.parts.Part.{Part}
 use Rattle.hoa_body.specs.declared.parts.Part.TheVariants.{State, Edge, End, Refused}
@@ -122,25 +118,24 @@ module _ (s : List ℕ) (i : ℕ) (a : Automaton) (u : Code.Table) where
     means = λ h t c g. ap (body_read h t) k.is;
   }
 
-  abbrev pub none_of_them : List ℕ
-  none_of_them = 0 ∷ 3 ∷ 5 ∷ 7 ∷ 8 ∷ 9 ∷ 10 ∷ []
-
-  pub no_part : (t : Token) → Reads s i t → OneOf none_of_them (tag_of (declared enum) t) → (o : ℕ) → o ≡ at (left s i) → PartAnswer s i a u (Refused (Form o))
+  pub no_part : (t : Token) → Reads s i t → ((o e : ℕ) → t ≡ Item o e → ⊥) → ((o v e : ℕ) → t ≡ Number o v e → ⊥) → ((o b : ℕ) → t ≡ Sign o b → ⊥)
+      → ((o : ℕ) → t ≡ Token.End o → ⊥) → (o : ℕ) → o ≡ at (left s i) → PartAnswer s i a u (Refused (Form o))
   unfolding body_read
-  no_part t k g o e = record {
+  no_part t k item number sign end o e = record {
     lies = tt;
-    means = λ h x c y. ap (body_read h x) k.is ∙ go h x t g ∙ ap (λ o. refuses (Form o)) (sym (e ∙ ap at k.is));
+    means = λ h x c y. ap (body_read h x) k.is ∙ go h x t item number sign end ∙ ap (λ o. refuses (Form o)) (sym (e ∙ ap at k.is));
   }
     where
-      go : (h : Header) (x : Table) (t : Token) → OneOf none_of_them (tag_of (declared enum) t) → body_read h x (stream s t) ≡ refuses (Form (at (stream s t)))
-      go h x (Word o e) g = refl
-      go h x (Item o e) g = absurd (miss none_of_them 1 tt g)
-      go h x (Number o v e) g = absurd (miss none_of_them 2 tt g)
-      go h x (Quoted o e) g = refl
-      go h x (Sign o b) g = absurd (miss none_of_them 4 tt g)
-      go h x (Token.Body o) g = refl
-      go h x (Token.End o) g = absurd (miss none_of_them 6 tt g)
-      go h x (Abort o) g = refl
-      go h x (Unread o e) g = refl
-      go h x (Over o) g = refl
-      go h x (Broken o r) g = refl
+      go : (h : Header) (x : Table) (t : Token) → ((o e : ℕ) → t ≡ Item o e → ⊥) → ((o v e : ℕ) → t ≡ Number o v e → ⊥) → ((o b : ℕ) → t ≡ Sign o b → ⊥)
+          → ((o : ℕ) → t ≡ Token.End o → ⊥) → body_read h x (stream s t) ≡ refuses (Form (at (stream s t)))
+      go h x (Word o e) item number sign end = refl
+      go h x (Item o e) item number sign end = absurd (item o e refl)
+      go h x (Number o v e) item number sign end = absurd (number o v e refl)
+      go h x (Quoted o e) item number sign end = refl
+      go h x (Sign o b) item number sign end = absurd (sign o b refl)
+      go h x (Token.Body o) item number sign end = refl
+      go h x (Token.End o) item number sign end = absurd (end o refl)
+      go h x (Abort o) item number sign end = refl
+      go h x (Unread o e) item number sign end = refl
+      go h x (Over o) item number sign end = refl
+      go h x (Broken o r) item number sign end = refl

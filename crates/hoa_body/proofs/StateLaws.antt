@@ -1,29 +1,20 @@
 -- Laws of states: the number, the quoted text, the marks.
-use mathlib.Core.Path.{◌≡◌, refl, sym, ap, ◌∙◌, subst}
-use mathlib.Core.Bool.{true, false, cond}
-use mathlib.Core.List.{List, [], ◌∷◌}
-use mathlib.Core.Option.{none}
+use mathlib.Core.Path.{◌≡◌, sym, ap, ◌∙◌, subst}
+use mathlib.Core.Bool.{true, false}
+use mathlib.Core.List.{List}
 use Prim.Native.Nat.{ℕ, ◌+◌, ◌≤◌, ◌<◌}
 use native.Mathlib.Omega.{arith}
 use borrow.Author.Tests.{lt-ltb, le-ltb}
-use lib.ListN.{length}
-use denote.Enum.Declared.{tag_of, declared}
-use types.Run.{OneOf, miss}
 use Rattle.meaning.specs.BitSet.{has}
 use Rattle.automaton.specs.declared.Automaton.{Automaton}
 use Rattle.refusals.specs.declared.Refusal.{Refusal}
-use Rattle.refusals.specs.declared.Refusal.TheVariants.{Form, Undeclared, Body}
-use Rattle.hoa_text.specs.Basics.{is_some}
+use Rattle.refusals.specs.declared.Refusal.TheVariants.{Undeclared, Body}
 use Rattle.hoa_text.specs.Tokens.{Stream, left}
-use Rattle.hoa_text.specs.Grammar.{number_of, quoted_of, next, rest, at, gives, Parsed, peek, then, onward}
+use Rattle.hoa_text.specs.Grammar.{gives, Parsed, then, onward}
 use Rattle.hoa_text.specs.Header.{Header}
 use Rattle.hoa_text.specs.Body.{Table, marked, with_state, unquoted, state_marked, state_given, state_item}
-use Rattle.hoa_tokens.specs.declared.Token.{Token}
-use Rattle.hoa_tokens.specs.declared.Token.TheVariants.{Word, Item, Number, Quoted, Sign, Abort, Unread, Over, Broken}
-use Rattle.hoa_tokens.specs.declared.Token.TheVariants as Token
-use Rattle.hoa_tokens.specs.Answers.{stream, Reads}
-use Rattle.hoa_tokens.specs.contracts.Token.{enum}
-use Rattle.hoa_tokens.proofs.Due.{number_due}
+use Rattle.hoa_tokens.specs.declared.Token.TheVariants.{Number, Quoted}
+use Rattle.hoa_tokens.specs.Answers.{Reads}
 use Rattle.hoa_marks.specs.declared.MarksRead.TheVariants as Marks
 use Rattle.hoa_marks.specs.Answers.{MarksAnswer}
 use Rattle.hoa_marks.proofs.MarkLaws.{then_refused, then_read}
@@ -38,26 +29,6 @@ use Rattle.hoa_body.proofs.OpenedLaws.{states_are, sets_are}
 
 pub behind_quoted : (s : List ℕ) (i o e : ℕ) → Reads s i (Quoted o e) → Unquoted s i (e + 1)
 behind_quoted s i o e h = record { is = sym (ap unquoted h.is); from = omega (arith, h.lies.from, h.lies.longer); to = h.lies.to }
-
-abbrev pub other_than_quoted : List ℕ
-other_than_quoted = 0 ∷ 1 ∷ 2 ∷ 4 ∷ 5 ∷ 6 ∷ 7 ∷ 8 ∷ 9 ∷ 10 ∷ []
-
-pub none_quoted : (s : List ℕ) (i : ℕ) (t : Token) → Reads s i t → OneOf other_than_quoted (tag_of (declared enum) t) → i ≤ length s → Unquoted s i i
-none_quoted s i t h g l =
-    record { is = sym (ap (λ b. cond b (rest (left s i)) (left s i)) (ap (next (λ t. is_some (quoted_of t))) h.is ∙ go t g)); from = omega arith; to = l }
-  where
-    go : (t : Token) → OneOf other_than_quoted (tag_of (declared enum) t) → next (λ t. is_some (quoted_of t)) (stream s t) ≡ false
-    go (Word o e) g = refl
-    go (Item o e) g = refl
-    go (Number o v e) g = refl
-    go (Quoted o e) g = absurd (miss other_than_quoted 3 tt g)
-    go (Sign o b) g = refl
-    go (Token.Body o) g = refl
-    go (Token.End o) g = refl
-    go (Abort o) g = refl
-    go (Unread o e) g = refl
-    go (Over o) g = refl
-    go (Broken o r) g = refl
 
 -- ---- the marks behind it
 
@@ -111,9 +82,3 @@ module _ (s : List ℕ) (i : ℕ) (a : Automaton) (named : ℕ) where
             (sym (numbered h t ∙ rw (lt-ltb v h.states (omega arith), sym (m v (omega (arith, bounded.states_le))) ∙ b)))
             (x.means h t (sets_are a h c));
       }
-
-  pub no_state : peek number_of (left s i) ≡ none → (o : ℕ) → o ≡ at (left s i) → StateAnswer s i a named (Refused (Form o))
-  no_state k o g = record {
-    lies = tt;
-    means = λ h t c m. ap (λ y. onward (then y (state_given h t (at (left s i))))) (number_due (left s i) o k g);
-  }

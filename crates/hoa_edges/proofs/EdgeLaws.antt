@@ -2,7 +2,6 @@
 use mathlib.Core.Path.{◌≡◌, refl, sym, ap, ◌∙◌, subst}
 use mathlib.Core.Logic.{◌≢◌}
 use mathlib.Core.List.{List}
-use mathlib.Core.Option.{none}
 use Prim.Native.Nat.{ℕ, ◌≤◌, ◌<◌}
 use native.Mathlib.Omega.{arith}
 use borrow.Author.Tests.{lt-ltb, le-ltb}
@@ -10,14 +9,13 @@ use lib.ListN.{length}
 use Rattle.refusals.specs.declared.Refusal.{Refusal}
 use Rattle.refusals.specs.declared.Refusal.TheVariants.{Form, Undeclared, Outside}
 use Rattle.hoa_text.specs.Tokens.{left}
-use Rattle.hoa_text.specs.Grammar.{number_of, at, refuses, peek, then}
+use Rattle.hoa_text.specs.Grammar.{at, refuses, then}
 use Rattle.hoa_text.specs.Formulas.{holds, label}
 use Rattle.hoa_text.specs.Header.{Header}
-use Rattle.hoa_text.specs.Body.{Current, Table, marks_given, destination_given, unlabelled, label_given, edge}
+use Rattle.hoa_text.specs.Body.{Current, Table, marks_given, unlabelled, label_given, edge}
 use Rattle.hoa_tokens.specs.declared.Token.TheVariants.{Number}
 use Rattle.hoa_tokens.specs.Answers.{Reads}
 use Rattle.hoa_offsets.specs.Behind.{Behind}
-use Rattle.hoa_tokens.proofs.Due.{number_due}
 use Rattle.hoa_offsets.specs.BehindLaws.{absent, present, behind_it}
 use Rattle.hoa_formulas.specs.Answers.{Read}
 use Rattle.hoa_marks.specs.declared.MarksRead.TheVariants as Marks
@@ -69,13 +67,6 @@ module _ (s : List ℕ) (i n m set : ℕ) (few : m ≤ 4) where
       means = λ v h t c f e z g. ap (unlabelled h t c f) k.is ∙ rw (le-ltb d h.states (omega arith));
       outside = λ g. absurd (omega arith);
     }
-
-  pub no_destination : peek number_of (left s i) ≡ none → (o : ℕ) → o ≡ at (left s i) → UnlabelledAnswer s i n m set (Refused (Form o))
-  no_destination k o g = record {
-    lies = tt;
-    means = λ v h t c f e z l. ap (λ y. then y (destination_given h t c f (at (left s i)))) (number_due (left s i) o k g);
-    outside = λ l. absurd (omega arith);
-  }
 
 -- ---- behind the label
 

@@ -8,20 +8,15 @@ use native.Mathlib.Omega.{arith}
 use borrow.Author.Tests.{le-leb, lt-leb}
 use lib.ListN.{length, get_or, length-append, get_or-eq_default}
 use lib.Seq.{slice}
-use denote.Enum.Declared.{tag_of, declared}
-use types.Run.{OneOf, miss}
 use Rattle.refusals.specs.declared.Refusal.{Refusal}
-use Rattle.refusals.specs.declared.Refusal.TheVariants.{Form, Size}
+use Rattle.refusals.specs.declared.Refusal.TheVariants.{Size}
 use Rattle.hoa_text.specs.Tokens.{blank, left}
-use Rattle.hoa_text.specs.Grammar.{at, refuses, then}
-use Rattle.hoa_text.specs.Header.{Items, name_given, naming, names_read, names_given, names_item}
+use Rattle.hoa_text.specs.Grammar.{refuses, then}
+use Rattle.hoa_text.specs.Header.{Items, name_given, naming, names_read, names_item}
 use Rattle.hoa_text.specs.RunOffsets.{digit_blank}
 use Rattle.hoa_text.specs.Names.{last_name}
-use Rattle.hoa_tokens.specs.declared.Token.{Token}
-use Rattle.hoa_tokens.specs.declared.Token.TheVariants.{Word, Item, Number, Quoted, Sign, Body, End, Abort, Unread, Over, Broken}
-use Rattle.hoa_tokens.specs.Answers.{stream, Reads}
-use Rattle.hoa_tokens.specs.contracts.Token.{enum}
-use Rattle.hoa_tokens.proofs.Due.{number_missing, number_due}
+use Rattle.hoa_tokens.specs.declared.Token.TheVariants.{Number, Quoted}
+use Rattle.hoa_tokens.specs.Answers.{Reads}
 use Rattle.hoa_names.specs.declared.Names.{Names}
 use Rattle.hoa_names.specs.declared.NamesRead.{NamesRead}
 use Rattle.hoa_names.specs.declared.Step.{Step}
@@ -50,25 +45,6 @@ module _ (s : List ℕ) (i : ℕ) (n : Names) where
         behind = let m : e ≡ d - 1 = omega (arith, g.end) in subst (λ n. blank (get_or s n 0) ≡ false) m (ap blank h.lies.last);
       }
       go m (Refused z) g = λ k. token k ∙ g (naming k (ws ++ (w ∷ [])) (left s (e + 1)))
-
-  pub no_name : (o : ℕ) (r : NamesRead) (t : Token) → Reads s i t → OneOf (0 ∷ 1 ∷ 2 ∷ 4 ∷ 5 ∷ 6 ∷ 7 ∷ 8 ∷ 9 ∷ 10 ∷ []) (tag_of (declared enum) t) → o ≡ at (left s i)
-      → r ≡ record { step = Refused (Form o); names = held [] } → OneMore s i n r
-  no_name o r t h g e q ws k =
-      subst (λ r. MoreAnswered s i ws r.names r.step) (sym q)
-      (λ k. ap (naming (suc k) ws) h.is ∙ go k t g ∙ ap (λ o. refuses (Form o)) (sym (e ∙ ap at h.is)))
-    where
-      go : (k : ℕ) (t : Token) → OneOf (0 ∷ 1 ∷ 2 ∷ 4 ∷ 5 ∷ 6 ∷ 7 ∷ 8 ∷ 9 ∷ 10 ∷ []) (tag_of (declared enum) t) → naming (suc k) ws (stream s t) ≡ refuses (Form (at (stream s t)))
-      go k (Word o e) g = refl
-      go k (Item o e) g = refl
-      go k (Number o v e) g = refl
-      go k (Quoted o e) g = absurd (miss (0 ∷ 1 ∷ 2 ∷ 4 ∷ 5 ∷ 6 ∷ 7 ∷ 8 ∷ 9 ∷ 10 ∷ []) 3 tt g)
-      go k (Sign o b) g = refl
-      go k (Body o) g = refl
-      go k (End o) g = refl
-      go k (Abort o) g = refl
-      go k (Unread o e) g = refl
-      go k (Over o) g = refl
-      go k (Broken o r) g = refl
 
 -- ---- the names so far
 
@@ -153,10 +129,6 @@ module _ (s : List ℕ) (i k : ℕ) (few : k ≤ 4) where
 module _ (s : List ℕ) (i : ℕ) where
   refused_names : (r : NamesRead) (z : Refusal) → r ≡ record { step = Refused z; names = held [] } → ((h : Items) → names_item h (left s i) ≡ refuses z) → ReadsNames s i r
   refused_names r z e g h = subst (λ r. NamesAnswered s i h r.names r.step) (sym e) (g h, refl)
-
-  pub no_count : (r : NamesRead) (o : ℕ) (t : Token) → Reads s i t → OneOf (0 ∷ 1 ∷ 3 ∷ 4 ∷ 5 ∷ 6 ∷ 7 ∷ 8 ∷ 9 ∷ 10 ∷ []) (tag_of (declared enum) t) → o ≡ at (left s i)
-      → r ≡ record { step = Refused (Form o); names = held [] } → ReadsNames s i r
-  no_count r o t h g e q = refused_names r (Form o) q (λ k. ap (λ x. then x (names_given k (at (left s i)))) (number_due (left s i) o (number_missing s i t h g) e))
 
   module _ (o k e : ℕ) (h : Reads s i (Number o k e)) where
     pub count_ends : blank (get_or s (e - 1) 0) ≡ false

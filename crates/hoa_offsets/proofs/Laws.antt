@@ -1,21 +1,17 @@
 -- Laws of the offsets of tokens.
 use mathlib.Core.Path.{◌≡◌, refl, sym, ap, ◌∙◌}
 use mathlib.Core.Logic.{◌≢◌}
-use mathlib.Core.Bool.{false, and-false}
+use mathlib.Core.Bool.{false}
 use mathlib.Core.List.{List, [], ◌∷◌}
 use Prim.Native.Nat.{ℕ, ◌+◌, ◌-◌, ◌≤◌}
 use native.Mathlib.Omega.{arith}
 use borrow.Author.Tests.{ne_eqb}
-use lib.Dec.{eqb}
 use lib.ListN.{length}
-use denote.Enum.Declared.{tag_of, declared}
-use types.Run.{OneOf, miss}
 use Rattle.hoa_text.specs.Tokens.{sign, stands, left}
 use Rattle.hoa_text.specs.Grammar.{next, at}
 use Rattle.hoa_tokens.specs.declared.Token.{Token}
-use Rattle.hoa_tokens.specs.declared.Token.TheVariants.{Word, Item, Number, Quoted, Sign, Body, End, Abort, Unread, Over, Broken}
+use Rattle.hoa_tokens.specs.declared.Token.TheVariants.{Sign}
 use Rattle.hoa_tokens.specs.Answers.{stream, Reads}
-use Rattle.hoa_tokens.specs.contracts.Token.{enum}
 use Rattle.hoa_offsets.specs.Behind.{is_sign_of, Behind}
 
 -- ---- one sign
@@ -38,23 +34,6 @@ absent_behind s i b h = record { from = omega arith; absent = λ e. h; present =
 
 pub behind_other_sign : (s : List ℕ) (i b c o : ℕ) → Reads s i (Sign o c) → c ≢ b → Behind s i b i
 behind_other_sign s i b c o h n = absent_behind s i b (ap (next (is_sign_of b)) h.is ∙ rw (ne_eqb b c (λ e. n (sym e))))
-
--- a token that is no sign of one byte
-pub behind_none : (s : List ℕ) (i b : ℕ) (t : Token) → Reads s i t → OneOf (0 ∷ 1 ∷ 2 ∷ 3 ∷ 5 ∷ 6 ∷ 7 ∷ 8 ∷ 9 ∷ 10 ∷ []) (tag_of (declared enum) t) → Behind s i b i
-behind_none s i b t h k = absent_behind s i b (ap (next (is_sign_of b)) h.is ∙ go t k)
-  where
-    go : (t : Token) → OneOf (0 ∷ 1 ∷ 2 ∷ 3 ∷ 5 ∷ 6 ∷ 7 ∷ 8 ∷ 9 ∷ 10 ∷ []) (tag_of (declared enum) t) → next (is_sign_of b) (stream s t) ≡ false
-    go (Word o e) k = refl
-    go (Item o e) k = refl
-    go (Number o v e) k = refl
-    go (Quoted o e) k = refl
-    go (Sign o c) k = absurd (miss (0 ∷ 1 ∷ 2 ∷ 3 ∷ 5 ∷ 6 ∷ 7 ∷ 8 ∷ 9 ∷ 10 ∷ []) 4 tt k)
-    go (Body o) k = and-false (eqb b 45)
-    go (End o) k = and-false (eqb b 45)
-    go (Abort o) k = and-false (eqb b 45)
-    go (Unread o e) k = refl
-    go (Over o) k = refl
-    go (Broken o r) k = refl
 
 -- ---- offsets
 

@@ -1,6 +1,6 @@
 -- Laws of the tokens at an offset.
 use mathlib.Core.Path.{◌≡◌, refl, sym, ap, ◌∙◌, subst}
-use mathlib.Core.Logic.{◌≢◌, ◌⊎◌, inl, inr, ⊎_elim}
+use mathlib.Core.Logic.{◌≢◌, inl, inr, ⊎_elim}
 use mathlib.Core.Bool.{Bool, true, false, not, ◌&&◌, ◌||◌, true≢false, false≢true}
 use mathlib.Core.List.{List, [], ◌∷◌}
 use Prim.Native.Nat.{ℕ, ◌+◌, ◌-◌, ◌*◌, ◌≤◌, ◌<◌, min}
@@ -15,7 +15,7 @@ use Rattle.meaning.specs.TestLaws.{and_right, or_cases}
 use Rattle.automaton.specs.Bytes.{bytes}
 use Rattle.hoa_text.specs.Basics.{is_some, begins}
 use Rattle.hoa_text.specs.Tokens.{blank, digit, opens_word, in_word, sign, token, leading_zero, value, piece, left}
-use Rattle.hoa_text.specs.Grammar.{number_of, next, at}
+use Rattle.hoa_text.specs.Grammar.{number_of, next}
 use Rattle.hoa_text.specs.Offsets.{inside, left_over, left_blank}
 use Rattle.hoa_text.specs.Numbers.{value_next, leads_zero, one_digit, digit_from}
 use Rattle.hoa_text.specs.RunOffsets.{Run, word_from, left_number, left_word, left_item, left_alias, left_at}

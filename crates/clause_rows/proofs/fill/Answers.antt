@@ -1,10 +1,7 @@
 -- `fill` meets its contract.
 use mathlib.Core.Path.{sym, ◌∙◌}
-use Prim.Native.Nat.{◌-◌}
 use native.Mathlib.Omega.{arith}
-use borrow.Author.Rules.{rules}
-use Rattle.meaning.specs.CountingLaws.{Filled, filled_none, filled_more, filled_all}
-use Rattle.clause_rows.specs.Rows.{full_row}
+use Rattle.meaning.specs.CountingLaws.{filled_none, filled_more, filled_all}
 use Rattle.clause_rows.proofs.fill.Goals as goal
 
 pub loop-u-init : goal.loop-u-init

@@ -1,9 +1,6 @@
 -- `fill` meets its contract.
-use mathlib.Core.Path.{sym, ◌∙◌}
 use Prim.Native.Nat.{◌-◌}
-use native.Mathlib.Omega.{arith}
-use borrow.Author.Rules.{rules}
-use Rattle.meaning.specs.CountingLaws.{Filled, filled_none, filled_more, filled_all}
+use Rattle.meaning.specs.CountingLaws.{Filled}
 use Rattle.clause_rows.specs.Rows.{full_row}
 use Rattle.clause_rows.proofs.fill.Given as goal
 

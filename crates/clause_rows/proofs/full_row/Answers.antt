@@ -1,5 +1,4 @@
 -- `full_row` meets its contract.
-use borrow.Author.Rules.{rules}
 use Rattle.clause_rows.proofs.Laws.{row_in, row_out}
 use Rattle.clause_rows.proofs.full_row.Goals as goal
 

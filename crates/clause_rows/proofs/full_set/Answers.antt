@@ -1,6 +1,5 @@
 -- `full_set` meets its contract.
 use native.Mathlib.Omega.{arith}
-use borrow.Author.Rules.{rules}
 use Rattle.bits.specs.Members.{shift_some}
 use Rattle.clause_rows.proofs.Laws.{full_low, full_all}
 use Rattle.clause_rows.proofs.full_set.Goals as goal

@@ -1,12 +1,10 @@
 -- `sums` meets its contract.
 use mathlib.Core.Path.{◌≡◌, sym, ◌∙◌, subst}
-use Prim.Native.Nat.{◌-◌}
 use native.Mathlib.Omega.{arith}
-use borrow.Author.Rules.{rules}
 use Rattle.meaning.specs.Counting.{total}
 use Rattle.meaning.specs.CountingLaws.{filled_all}
 use Rattle.clause_rows.specs.Rows.{held}
-use Rattle.clause_rows.proofs.Laws.{Summed, summed_none, summed_more}
+use Rattle.clause_rows.proofs.Laws.{summed_none, summed_more}
 use Rattle.clause_rows.proofs.sums.Goals as goal
 
 pub loop-u-init : goal.loop-u-init

@@ -9,7 +9,7 @@ use native.Mathlib.Omega.{arith}
 use Rattle.clause_sizes.proofs.last_variable.Goals as goal
 
 pub returns-then-not-fitting : goal.returns-then-not-fitting
-returns-then-not-fitting c = record { there = λ f. absurd (false_not _ (c.if-not-fitting.true) (c.fitting.ensures.1 f)); none = λ n. refl; small = omega arith }
+returns-then-not-fitting c = record { there = λ f. absurd (false_not _ c.if-not-fitting.true (c.fitting.ensures.1 f)); none = λ n. refl; small = omega arith }
 
 pub overflow_mul-result-4 : goal.overflow_mul-result-4
 overflow_mul-result-4 c =

@@ -11,7 +11,7 @@ use borrow.Author.Rules.{rules}
 use Rattle.clause_sizes.proofs.measure.Goals as goal
 
 pub returns-then-not-valid : goal.returns-then-not-valid
-returns-then-not-valid c = turned_down c.refused.ensures (outside (λ v. false_not _ (c.if-not-valid.true) (c.valid.ensures.1 v)))
+returns-then-not-valid c = turned_down c.refused.ensures (outside (λ v. false_not _ c.if-not-valid.true (c.valid.ensures.1 v)))
 
 pub returns : goal.returns
 returns c =
@@ -32,4 +32,4 @@ pub returns-then-not-dimensioned : goal.returns-then-not-dimensioned
 returns-then-not-dimensioned c =
     let valid : Valid c.args.reference = c.valid.ensures.0 c.if-not-valid.false in
     turned_down c.refused-then-not-dimensioned.ensures
-    (dimensions valid (λ d. false_not _ (c.if-not-dimensioned.true) (c.dimensioned.ensures.1 d)))
+    (dimensions valid (λ d. false_not _ c.if-not-dimensioned.true (c.dimensioned.ensures.1 d)))

@@ -6,14 +6,14 @@ use borrow.Author.Rules.{rules}
 use Rattle.clause_variables.proofs.step_variable.Goals as goal
 
 pub returns-then-not-fitting : goal.returns-then-not-fitting
-returns-then-not-fitting c = no_variable _ _ (λ (f, i). false_not _ (c.if-not-fitting.true) (c.fitting.ensures.1 f))
+returns-then-not-fitting c = no_variable _ _ (λ (f, i). false_not _ c.if-not-fitting.true (c.fitting.ensures.1 f))
 
 pub returns-then-not-q-n : goal.returns-then-not-q-n
-returns-then-not-q-n c = no_variable _ _ (λ (f, i). false_not _ (c.if-not-q-n.true) ((step_test c.args.z _ _ _).1 i))
+returns-then-not-q-n c = no_variable _ _ (λ (f, i). false_not _ c.if-not-q-n.true ((step_test c.args.z _ _ _).1 i))
 
 pub step_number-requires : goal.step_number-requires
-step_number-requires c = let f = c.fitting.ensures.0 (c.if-not-fitting.false) in
-    record { fitting = f; in_file = (step_test c.args.z _ _ _).0 (c.if-not-q-n.false) }
+step_number-requires c = let f = c.fitting.ensures.0 c.if-not-fitting.false in
+    record { fitting = f; in_file = (step_test c.args.z _ _ _).0 c.if-not-q-n.false }
 
 pub returns : goal.returns
-returns c = let f = c.fitting.ensures.0 (c.if-not-fitting.false) in a_variable _ _ f ((step_test c.args.z _ _ _).0 (c.if-not-q-n.false)) c.step_number.ensures
+returns c = let f = c.fitting.ensures.0 c.if-not-fitting.false in a_variable _ _ f ((step_test c.args.z _ _ _).0 c.if-not-q-n.false) c.step_number.ensures

@@ -1,15 +1,11 @@
 -- `write_line` meets its contract.
--- the literals stand in the line, which has room for two bytes more
-use mathlib.Core.Path.{◌≡◌, refl, sym, ◌∙◌, subst}
-use Prim.Native.Nat.{ℕ, ◌+◌, ◌≤◌}
+use mathlib.Core.Path.{refl, subst}
+use Prim.Native.Nat.{ℕ}
 use native.Mathlib.Omega.{arith}
-use lib.ListN.{length, replicate, length-set, length-replicate}
-use lib.Seq.{length-take-le}
-use Rattle.decimal.specs.Wrote.{Wrote, WroteIfRoom}
+use lib.ListN.{length-replicate}
+use Rattle.decimal.specs.Wrote.{WroteIfRoom}
 use Rattle.decimal.specs.Writing.{wrote_length}
-use Rattle.clause_words.specs.Text.{spaced_text}
 use Rattle.clause_words.proofs.Spelling.{wrote_line}
-use borrow.Author.Rules.{rules}
 use Rattle.clause_words.proofs.write_line.Goals as goal
 
 pub returns-then-clause-gt-LITERALS : goal.returns-then-clause-gt-LITERALS

@@ -1,5 +1,4 @@
 -- `write_literal` meets its contract.
--- the literal is what its bits say, and so is its variable
 use mathlib.Core.Path.{◌≡◌, ap, ◌∙◌}
 use Prim.Native.Nat.{ℕ}
 use lib.IntN.{ℤ, nat_abs}
@@ -8,7 +7,6 @@ use mir.Val.{SFits, to_z, of_z}
 use mir.ValLaws.{to_z-of_z}
 use Rattle.clause_words.proofs.Spelling.{negative_room, wrote_negative, wrote_other}
 use Rattle.decimal.specs.Writing.{wrote_length}
-use borrow.Author.Rules.{rules}
 use native.Mathlib.Omega.{arith}
 use Rattle.clause_words.proofs.write_literal.Goals as goal
 

@@ -1,10 +1,9 @@
 -- `write_literals` meets its contract. The invariant: the text of the first i literals is written.
 use mathlib.Core.Path.{refl, subst}
 use mathlib.Core.List.{[], ◌∷◌}
-use Prim.Native.Nat.{◌-◌, ◌≤◌}
 use native.Mathlib.Omega.{arith}
 use lib.IntN.{pos}
-use lib.ListN.{get_or, length}
+use lib.ListN.{get_or}
 use mir.Syntax.{w32}
 use mir.Val.{SFits}
 use mir.ValLaws.{to_z-of_z}
@@ -12,7 +11,7 @@ use borrow.Author.Rules.{rules}
 use Rattle.decimal.specs.Wrote.{Wrote}
 use Rattle.decimal.specs.Writing.{wrote_length}
 use Rattle.clause_words.specs.Text.{spaced_text}
-use Rattle.clause_words.proofs.Spelling.{Spelled, spelled_none, spelled_more, spelled_all}
+use Rattle.clause_words.proofs.Spelling.{spelled_none, spelled_more, spelled_all}
 use Rattle.clause_words.proofs.write_literals.Goals as goal
 
 pub returns-then-size-at : goal.returns-then-size-at

@@ -1,5 +1,4 @@
 -- `write_spaced` meets its contract.
--- the literal is what its bits say
 use mathlib.Core.Path.{◌≡◌, subst}
 use Prim.Native.Nat.{◌≤◌}
 use native.Mathlib.Omega.{arith}
@@ -12,7 +11,6 @@ use Rattle.decimal.specs.Writing.{wrote_length}
 use Rattle.clause_words.specs.Text.{literal_text}
 use Rattle.clause_words.proofs.Signs.{abs_le}
 use Rattle.clause_words.proofs.Spelling.{literal_at_most, wrote_spaced}
-use borrow.Author.Rules.{rules}
 use Rattle.clause_words.proofs.write_spaced.Goals as goal
 
 pub write_literal-to-requires : goal.write_literal-to-requires

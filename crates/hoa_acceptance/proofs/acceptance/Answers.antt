@@ -14,5 +14,3 @@ counted-requires c = c.if-sets-gt-SETS.false
 pub returns-else-sets-gt-SETS : goal.returns-else-sets-gt-SETS
 returns-else-sets-gt-SETS c = sets_read_lem _ _ _ _ _ (subst (Reads _ _) c.in-Number.is c.next_token.ensures) c.if-sets-gt-SETS.false c.counted.result c.counted.ensures
 
-pub returns-in_default : goal.returns-in_default
-returns-in_default c = sets_missing _ _ _ _ c.next_token.ensures c.in_default.in_default-own.keys2 c.offset.ensures

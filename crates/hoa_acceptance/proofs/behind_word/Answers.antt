@@ -17,5 +17,3 @@ returns-else-spells c =
     let h = subst (Reads _ _) c.in-Word.is c.next_token.ensures in
     word_differs c.args.word.now _ _ _ _ h (spelled _ _ _ c.args.word.now _ c.spells.ensures (omega (arith, h.lies.longer)) h.lies.to ∙ c.if-spells.false)
 
-pub returns-in_default : goal.returns-in_default
-returns-in_default c = word_missing c.args.word.now _ _ _ c.next_token.ensures c.in_default.in_default-own.keys2

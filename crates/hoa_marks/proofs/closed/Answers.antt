@@ -1,5 +1,4 @@
 -- `closed` meets its contract.
-use borrow.Author.Rules.{rules}
 use Rattle.hoa_marks.proofs.MarkLaws.{closed_read, closed_refused}
 use Rattle.hoa_marks.proofs.closed.Goals as goal
 

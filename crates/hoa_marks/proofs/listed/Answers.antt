@@ -1,12 +1,9 @@
 -- `listed` meets its contract.
 use mathlib.Core.Path.{refl, subst}
-use Prim.Native.Nat.{◌-◌}
 use native.Mathlib.Omega.{arith}
-use borrow.Author.Rules.{rules}
-use lib.ListN.{length}
 use Rattle.hoa_tokens.specs.Answers.{Reads}
 use Rattle.hoa_tokens.proofs.Due.{number_absent}
-use Rattle.hoa_marks.proofs.MarkLaws.{Listed, mark_undeclared, mark_listed, marks_closed}
+use Rattle.hoa_marks.proofs.MarkLaws.{mark_undeclared, mark_listed, marks_closed}
 use Rattle.hoa_marks.proofs.listed.Goals as goal
 
 pub loop-start-init : goal.loop-start-init

@@ -1,12 +1,7 @@
 -- `listed` meets its contract.
-use mathlib.Core.Path.{refl, subst}
 use Prim.Native.Nat.{◌-◌}
-use native.Mathlib.Omega.{arith}
-use borrow.Author.Rules.{rules}
 use lib.ListN.{length}
-use Rattle.hoa_tokens.specs.Answers.{Reads}
-use Rattle.hoa_tokens.proofs.Due.{number_absent}
-use Rattle.hoa_marks.proofs.MarkLaws.{Listed, mark_undeclared, mark_listed, marks_closed}
+use Rattle.hoa_marks.proofs.MarkLaws.{Listed}
 use Rattle.hoa_marks.proofs.listed.Given as goal
 
 abbrev pub invariant-loop-start : goal.invariant-loop-start

@@ -1,5 +1,4 @@
 -- `marks` meets its contract.
-use borrow.Author.Rules.{rules}
 use Rattle.hoa_marks.proofs.MarkLaws.{marks_outside, no_marks, some_marks}
 use Rattle.hoa_marks.proofs.marks.Goals as goal
 

@@ -1,8 +1,7 @@
 -- `propositions` meets its contract.
 use mathlib.Core.Path.{subst}
-use borrow.Author.Rules.{rules}
 use Rattle.hoa_tokens.specs.Answers as Scanned
-use Rattle.hoa_names.proofs.Text.{no_count, count_ends, count_over, count_read}
+use Rattle.hoa_names.proofs.Text.{count_ends, count_over, count_read}
 use Rattle.hoa_names.proofs.propositions.Goals as goal
 
 pub returns-then-count-gt-PROPOSITIONS : goal.returns-then-count-gt-PROPOSITIONS
@@ -17,4 +16,3 @@ names_from-requires c =
 pub returns-else-count-gt-PROPOSITIONS : goal.returns-else-count-gt-PROPOSITIONS
 returns-else-count-gt-PROPOSITIONS c =
     count_read c.args.text.now c.args.at _ _ _ (subst (Scanned.Reads _ _) c.in-Number.is c.next_token.ensures) c.if-count-gt-PROPOSITIONS.false c.names_from.result c.names_from.ensures
-

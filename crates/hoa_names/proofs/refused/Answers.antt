@@ -1,6 +1,5 @@
 -- `refused` meets its contract.
 use mathlib.Core.Path.{ap}
-use borrow.Author.Rules.{rules}
 use Rattle.hoa_names.specs.declared.Step.TheVariants.{Refused}
 use Rattle.hoa_names.proofs.refused.Goals as goal
 

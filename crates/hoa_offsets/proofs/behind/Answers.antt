@@ -2,8 +2,7 @@
 use mathlib.Core.Path.{subst}
 use native.Mathlib.Omega.{arith}
 use Rattle.hoa_tokens.specs.Answers.{Reads}
-use Rattle.hoa_offsets.proofs.Laws.{behind_sign, behind_other_sign, behind_none, sign_room}
-use borrow.Author.Rules.{rules}
+use Rattle.hoa_offsets.proofs.Laws.{behind_sign, behind_other_sign, sign_room}
 use Rattle.hoa_offsets.proofs.behind.Goals as goal
 
 pub overflow_add-result : goal.overflow_add-result
@@ -14,4 +13,3 @@ returns-then-byte-sign c = behind_sign _ _ _ _ _ (subst (Reads _ _) c.in-Sign.is
 
 pub returns-else-byte-sign : goal.returns-else-byte-sign
 returns-else-byte-sign c = behind_other_sign _ _ _ _ _ (subst (Reads _ _) c.in-Sign.is c.next_token.ensures) c.if-byte-sign.false
-

@@ -1,6 +1,5 @@
 -- `offset` meets its contract.
 use Rattle.hoa_offsets.proofs.Laws.{offset_is}
-use borrow.Author.Rules.{rules}
 use Rattle.hoa_offsets.proofs.offset.Goals as goal
 
 pub returns-in-Word : goal.returns-in-Word

@@ -15,7 +15,7 @@ pub number-requires : goal.number-requires
 number-requires c = digit_between (get_or c.args.text.now c.skip_blanks-start.result 0) (omega arith) (omega arith)
 
 pub other-requires : goal.other-requires
-other-requires c = record { inside = c.if-start-text.false; is = refl; no_blank = c.skip_blanks-start.ensures.ends; no_digit = elim c.in_default.branch [ in_default-via-then-byte-lt48 w ↦ below_digits (get_or c.args.text.now c.skip_blanks-start.result 0) (omega arith) | in_default-via-else-byte-lt48+else-byte-lt58 w ↦ above_digits (get_or c.args.text.now c.skip_blanks-start.result 0) (omega arith) ]; no_quote = c.in_default-1.rest.0.0.1; no_at = c.in_default-1.rest.0.1; no_dash = c.in_default-1.rest.1 }
+other-requires c = record { inside = c.if-start-text.false; is = refl; no_blank = c.skip_blanks-start.ensures.ends; no_digit = elim c.in_default.branch [ in_default-via-then-byte-lt48 w ↦ below_digits (get_or c.args.text.now c.skip_blanks-start.result 0) (omega arith) | in_default-via-else-byte-lt48+else-byte-lt58 w ↦ above_digits (get_or c.args.text.now c.skip_blanks-start.result 0) (omega arith) ]; no_quote = search rules; no_at = search rules; no_dash = search rules }
 
 pub returns-in-34 : goal.returns-in-34
 returns-in-34 c = reads_before _ c.skip_blanks-start.ensures c.quoted.ensures

@@ -1,6 +1,5 @@
 -- `number_here` meets its contract.
 use Rattle.hoa_tokens.proofs.Laws.{past_here, led_here, zero_here, number_here}
-use borrow.Author.Rules.{rules}
 use Rattle.hoa_tokens.proofs.number_here.Goals as goal
 
 pub returns-then-text-at : goal.returns-then-text-at

@@ -1,7 +1,6 @@
 -- `other` meets its contract.
 use mathlib.Core.Path.{sym, ◌∙◌}
 use Rattle.hoa_tokens.proofs.Laws.{opens_name, is_sign_lem, is_none}
-use borrow.Author.Rules.{rules}
 use Rattle.hoa_tokens.proofs.other.Goals as goal
 
 pub name-requires : goal.name-requires

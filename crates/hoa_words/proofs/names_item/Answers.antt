@@ -1,7 +1,6 @@
 -- `names_item` meets its contract.
 use mathlib.Core.Path.{ap, ◌∙◌}
 use native.Mathlib.Omega.{arith}
-use borrow.Author.Rules.{rules}
 use borrow.Author.Tests.{lt-ltb}
 use Prim.Native.Nat.{◌-◌}
 use lib.ListN.{length}

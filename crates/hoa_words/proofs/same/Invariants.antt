@@ -1,12 +1,8 @@
 -- `same` meets its contract.
-use mathlib.Core.Path.{◌≡◌, refl, sym, ◌∙◌}
+use mathlib.Core.Path.{◌≡◌}
 use Prim.Native.Nat.{◌-◌, ◌≤◌}
-use native.Mathlib.Omega.{arith}
-use borrow.Author.Tests.{eq-eqb, ne_eqb}
 use lib.ListN.{length, drop}
 use Rattle.hoa_text.specs.Basics.{same}
-use Rattle.hoa_words.proofs.Laws.{same_length, same_step, same_end}
-use borrow.Author.Rules.{rules}
 use Rattle.hoa_words.proofs.same.Given as goal
 
 abbrev pub invariant-loop-i : goal.invariant-loop-i

@@ -1,6 +1,5 @@
 -- `spells` meets its contract.
 use mathlib.Core.Path.{ap, ◌∙◌}
-use borrow.Author.Rules.{rules}
 use borrow.Author.Tests.{le-leb, lt-leb}
 use Rattle.hoa_text.specs.Basics.{same}
 use Rattle.hoa_words.specs.Parts.{spells}

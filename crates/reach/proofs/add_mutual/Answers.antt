@@ -1,7 +1,7 @@
 -- `add_mutual` meets its contract.
 use mathlib.Core.Path.{◌≡◌, ap₂, subst}
 use mathlib.Core.Bool.{◌&&◌}
-use Prim.Native.Nat.{◌*◌, ◌-◌, ◌/◌, ◌≤◌}
+use Prim.Native.Nat.{◌*◌, ◌/◌}
 use native.Mathlib.Omega.{arith}
 use Rattle.reach.specs.Mutual.{Mutual}
 use Rattle.reach.proofs.Stores.{grown}

@@ -1,11 +1,6 @@
 -- `add_mutual` meets its contract.
-use mathlib.Core.Path.{◌≡◌, ap₂, subst}
-use mathlib.Core.Bool.{◌&&◌}
-use Prim.Native.Nat.{◌*◌, ◌-◌, ◌/◌, ◌≤◌}
-use native.Mathlib.Omega.{arith}
+use Prim.Native.Nat.{◌*◌, ◌-◌, ◌≤◌}
 use Rattle.reach.specs.Mutual.{Mutual}
-use Rattle.reach.proofs.Stores.{grown}
-use Rattle.reach.proofs.Pairs.{mutual_none, mutual_more}
 use Rattle.reach.proofs.add_mutual.Given as goal
 
 abbrev pub invariant-loop-i : goal.invariant-loop-i

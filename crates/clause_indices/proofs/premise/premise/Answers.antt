@@ -13,7 +13,7 @@ pub returns-then-out-lt-CLAUSE : goal.returns-then-out-lt-CLAUSE
 returns-then-out-lt-CLAUSE c = no_premise (λ (f, w, i, l). absurd (omega (arith, c.if-out-lt-CLAUSE.true)))
 
 pub returns-then-not-fitting : goal.returns-then-not-fitting
-returns-then-not-fitting c = no_premise (λ (f, w, i, l). false_not _ (c.if-not-fitting.true) (c.fitting.ensures.1 f))
+returns-then-not-fitting c = no_premise (λ (f, w, i, l). false_not _ c.if-not-fitting.true (c.fitting.ensures.1 f))
 
 pub within-requires : goal.within-requires
 within-requires c =
@@ -21,7 +21,7 @@ within-requires c =
     fits
 
 pub returns-then-not-within : goal.returns-then-not-within
-returns-then-not-within c = no_premise (λ (f, w, i, l). false_not _ (c.if-not-within.true) (c.within.ensures.1 w))
+returns-then-not-within c = no_premise (λ (f, w, i, l). false_not _ c.if-not-within.true (c.within.ensures.1 w))
 
 pub returns-then-path-eq0 : goal.returns-then-path-eq0
 returns-then-path-eq0 c = no_premise (λ (f, w, i, l). absurd (omega (arith, c.if-path-eq0.true, (c.path_variable-path.ensures.there f i).some)))

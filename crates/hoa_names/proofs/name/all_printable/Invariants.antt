@@ -1,13 +1,9 @@
 -- `name::all_printable` meets its contract.
-use mathlib.Core.Path.{◌≡◌, refl, sym, ◌∙◌}
+use mathlib.Core.Path.{◌≡◌}
 use Prim.Native.Nat.{◌-◌, ◌≤◌}
-use native.Mathlib.Omega.{arith}
-use borrow.Author.Tests.{not-true, not-false}
-use borrow.Author.Rules.{rules}
 use lib.ListN.{length, drop}
 use Rattle.automaton.specs.Value.{printable}
 use Rattle.hoa_text.specs.Header.{all_bytes}
-use Rattle.hoa_names.proofs.Judged.{bytes_step, bytes_end}
 use Rattle.hoa_names.proofs.name.all_printable.Given as goal
 
 abbrev pub invariant-loop-i : goal.invariant-loop-i

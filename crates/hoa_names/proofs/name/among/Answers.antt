@@ -1,13 +1,7 @@
 -- `name::among` meets its contract.
-use mathlib.Core.Path.{◌≡◌, refl, sym}
-use mathlib.Core.List.{List}
-use Prim.Native.Nat.{ℕ, ◌-◌, ◌≤◌}
+use mathlib.Core.Path.{refl, sym}
 use native.Mathlib.Omega.{arith}
-use borrow.Author.Rules.{rules}
-use lib.ListN.{length, drop}
-use Rattle.hoa_text.specs.Header as Header
 use Rattle.hoa_words.specs.Inside.{spelled}
-use Rattle.hoa_names.specs.Naming.{Slots}
 use Rattle.hoa_names.proofs.Slots.{among_found, among_passed, among_end}
 use Rattle.hoa_names.proofs.name.among.Goals as goal
 

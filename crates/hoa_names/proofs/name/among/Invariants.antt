@@ -1,14 +1,10 @@
 -- `name::among` meets its contract.
-use mathlib.Core.Path.{◌≡◌, refl, sym}
+use mathlib.Core.Path.{◌≡◌}
 use mathlib.Core.List.{List}
 use Prim.Native.Nat.{ℕ, ◌-◌, ◌≤◌}
-use native.Mathlib.Omega.{arith}
-use borrow.Author.Rules.{rules}
 use lib.ListN.{length, drop}
 use Rattle.hoa_text.specs.Header as Header
-use Rattle.hoa_words.specs.Inside.{spelled}
 use Rattle.hoa_names.specs.Naming.{Slots}
-use Rattle.hoa_names.proofs.Slots.{among_found, among_passed, among_end}
 use Rattle.hoa_names.proofs.name.among.Given as goal
 
 abbrev pub invariant-loop-i : goal.invariant-loop-i

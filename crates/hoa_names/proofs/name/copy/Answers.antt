@@ -1,8 +1,7 @@
 -- `name::copy` meets its contract.
 use mathlib.Core.Path.{◌≡◌, refl, ap, ◌∙◌, subst}
-use Prim.Native.Nat.{◌+◌, ◌-◌, ◌≤◌}
+use Prim.Native.Nat.{◌+◌}
 use native.Mathlib.Omega.{arith}
-use borrow.Author.Rules.{rules}
 use lib.ListN.{length, set, get_or, length-set}
 use lib.Seq.{paste, paste-zero}
 use Rattle.hoa_names.proofs.Slots.{pasted}

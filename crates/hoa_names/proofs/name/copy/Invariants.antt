@@ -1,11 +1,8 @@
 -- `name::copy` meets its contract.
-use mathlib.Core.Path.{◌≡◌, refl, ap, ◌∙◌, subst}
-use Prim.Native.Nat.{◌+◌, ◌-◌, ◌≤◌}
-use native.Mathlib.Omega.{arith}
-use borrow.Author.Rules.{rules}
-use lib.ListN.{length, set, get_or, length-set}
-use lib.Seq.{paste, paste-zero}
-use Rattle.hoa_names.proofs.Slots.{pasted}
+use mathlib.Core.Path.{◌≡◌}
+use Prim.Native.Nat.{◌-◌, ◌≤◌}
+use lib.ListN.{length}
+use lib.Seq.{paste}
 use Rattle.hoa_names.proofs.name.copy.Given as goal
 
 abbrev pub invariant-loop-i : goal.invariant-loop-i

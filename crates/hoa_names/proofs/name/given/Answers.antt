@@ -1,7 +1,5 @@
 -- `name::given` meets its contract.
 use mathlib.Core.Path.{sym, ◌∙◌}
-use borrow.Author.Tests.{not-true, not-false}
-use borrow.Author.Rules.{rules}
 use Rattle.hoa_names.proofs.Judged.{given_form, given_empty, given_long, given_alike, given_taken}
 use Rattle.hoa_names.proofs.name.given.Goals as goal
 

@@ -2,10 +2,9 @@
 use mathlib.Core.Path.{subst}
 use Prim.Native.Nat.{◌+◌}
 use native.Mathlib.Omega.{arith}
-use borrow.Author.Rules.{rules}
 use Rattle.hoa_words.proofs.Laws.{part_is}
 use Rattle.hoa_tokens.specs.Answers as Scanned
-use Rattle.hoa_names.proofs.Text.{name_read, no_name}
+use Rattle.hoa_names.proofs.Text.{name_read}
 use Rattle.hoa_names.proofs.name.name.Goals as goal
 
 pub overflow_add-start : goal.overflow_add-start
@@ -37,4 +36,3 @@ pub returns-in-Quoted : goal.returns-in-Quoted
 returns-in-Quoted c =
     let h = (subst (Scanned.Reads _ _) c.in-Quoted.is c.next_token.ensures) in
     name_read c.args.text.now c.args.at c.args.names _ _ c.given.result h _ (part_is (c.in-Quoted.start + 1) c.in-Quoted.end c.args.text.now (omega (arith, h.lies.longer))) c.given.ensures
-

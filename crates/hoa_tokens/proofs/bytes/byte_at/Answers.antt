@@ -1,6 +1,5 @@
 -- `bytes::byte_at` meets its contract.
 use Rattle.hoa_tokens.proofs.Laws.{past}
-use borrow.Author.Rules.{rules}
 use Rattle.hoa_tokens.proofs.bytes.byte_at.Goals as goal
 
 pub returns-else-at-text : goal.returns-else-at-text

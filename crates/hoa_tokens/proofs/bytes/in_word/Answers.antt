@@ -1,5 +1,4 @@
 -- `bytes::in_word` meets its contract.
-use borrow.Author.Rules.{rules}
 use Rattle.hoa_tokens.proofs.bytes.in_word.Goals as goal
 
 pub returns : goal.returns

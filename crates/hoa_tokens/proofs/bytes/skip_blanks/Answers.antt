@@ -1,10 +1,6 @@
 -- `bytes::skip_blanks` meets its contract.
-use Prim.Native.Nat.{◌-◌}
-use lib.ListN.{length}
-use borrow.Author.Tests.{not-true, not-false}
 use mathlib.Core.Path.{sym, ◌∙◌}
-use Rattle.hoa_tokens.proofs.Laws.{Passed, passed_none, passed_more, skipped, skipped_end}
-use borrow.Author.Rules.{rules}
+use Rattle.hoa_tokens.proofs.Laws.{passed_none, passed_more, skipped, skipped_end}
 use Rattle.hoa_tokens.proofs.bytes.skip_blanks.Goals as goal
 
 pub loop-i-init : goal.loop-i-init

@@ -1,7 +1,6 @@
 -- `names::alias` meets its contract.
 use native.Mathlib.Omega.{arith}
 use Rattle.hoa_tokens.proofs.Laws.{is_alias, at_alone}
-use borrow.Author.Rules.{rules}
 use Rattle.hoa_text.specs.Offsets.{byte_inside}
 use Rattle.hoa_tokens.proofs.names.alias.Goals as goal
 

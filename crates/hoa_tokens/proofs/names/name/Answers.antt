@@ -2,7 +2,6 @@
 use mathlib.Core.Path.{sym, ◌∙◌}
 use native.Mathlib.Omega.{arith}
 use Rattle.hoa_tokens.proofs.Laws.{word_inside, is_item_lem, is_word}
-use borrow.Author.Rules.{rules}
 use Rattle.hoa_tokens.proofs.names.name.Goals as goal
 
 pub overflow_add-start : goal.overflow_add-start

@@ -1,14 +1,8 @@
 -- `numbers::digits` meets its contract.
-use mathlib.Core.Path.{◌≡◌, refl}
-use Prim.Native.Nat.{◌-◌}
+use mathlib.Core.Path.{refl}
 use native.Mathlib.Omega.{arith}
-use lib.ListN.{length}
-use lib.Seq.{slice}
-use borrow.Author.Tests.{not-true, not-false}
 use mathlib.Core.Path.{sym, ◌∙◌}
-use Rattle.hoa_text.specs.Tokens.{digit, value}
-use Rattle.hoa_tokens.proofs.Laws.{Scanned, scanned_none, scanned_more, scanned_run, scanned_end, no_digits, one_more_digit}
-use borrow.Author.Rules.{rules}
+use Rattle.hoa_tokens.proofs.Laws.{scanned_none, scanned_more, scanned_run, scanned_end, no_digits, one_more_digit}
 use Rattle.hoa_text.specs.Numbers.{digit_from}
 use Rattle.hoa_tokens.proofs.numbers.digits.Goals as goal
 

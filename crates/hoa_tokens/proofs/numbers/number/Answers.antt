@@ -1,7 +1,6 @@
 -- `numbers::number` meets its contract.
 use native.Mathlib.Omega.{arith}
 use Rattle.hoa_tokens.proofs.Laws.{digit_inside, zero_leads, zero_alone, no_zero}
-use borrow.Author.Rules.{rules}
 use Rattle.hoa_tokens.proofs.numbers.number.Goals as goal
 
 pub digits-run-requires : goal.digits-run-requires

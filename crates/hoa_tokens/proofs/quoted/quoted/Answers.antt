@@ -1,11 +1,8 @@
 -- `quoted::quoted` meets its contract.
-use Prim.Native.Nat.{◌+◌, ◌-◌}
-use lib.ListN.{length}
 use mathlib.Core.Path.{sym, ◌∙◌}
-use Rattle.hoa_text.specs.QuotedOffsets.{InQuotes, quotes_open}
+use Rattle.hoa_text.specs.QuotedOffsets.{quotes_open}
 use native.Mathlib.Omega.{arith}
 use Rattle.hoa_tokens.proofs.Laws.{quotes_step, quotes_close, quotes_cut}
-use borrow.Author.Rules.{rules}
 use Rattle.hoa_text.specs.Offsets.{byte_inside}
 use Rattle.hoa_tokens.proofs.quoted.quoted.Goals as goal
 

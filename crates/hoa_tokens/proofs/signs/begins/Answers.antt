@@ -1,10 +1,7 @@
 -- `signs::begins` meets its contract.
-use mathlib.Core.Path.{◌≡◌, sym, ◌∙◌}
-use Prim.Native.Nat.{◌+◌, ◌-◌, ◌≤◌}
+use mathlib.Core.Path.{sym, ◌∙◌}
 use borrow.Author.Tests.{eq-eqb, ne_eqb}
 use native.Mathlib.Nat.{add-zero, add_assoc}
-use lib.ListN.{length, drop}
-use Rattle.hoa_text.specs.Basics.{begins}
 use Rattle.hoa_tokens.proofs.Laws.{begins_step, begins_short, begins_none}
 use borrow.Author.Rules.{rules}
 use Rattle.hoa_tokens.proofs.signs.begins.Goals as goal

@@ -1,12 +1,8 @@
 -- `signs::begins` meets its contract.
-use mathlib.Core.Path.{◌≡◌, sym, ◌∙◌}
+use mathlib.Core.Path.{◌≡◌}
 use Prim.Native.Nat.{◌+◌, ◌-◌, ◌≤◌}
-use borrow.Author.Tests.{eq-eqb, ne_eqb}
-use native.Mathlib.Nat.{add-zero, add_assoc}
 use lib.ListN.{length, drop}
 use Rattle.hoa_text.specs.Basics.{begins}
-use Rattle.hoa_tokens.proofs.Laws.{begins_step, begins_short, begins_none}
-use borrow.Author.Rules.{rules}
 use Rattle.hoa_tokens.proofs.signs.begins.Given as goal
 
 abbrev pub invariant-loop-i : goal.invariant-loop-i

@@ -1,7 +1,6 @@
 -- `signs::body_word` meets its contract.
 use mathlib.Core.Path.{sym, ◌∙◌}
 use Rattle.hoa_tokens.proofs.Laws.{is_body, is_end, is_abort, is_no_word}
-use borrow.Author.Rules.{rules}
 use Rattle.hoa_text.specs.Offsets.{byte_inside}
 use Rattle.hoa_tokens.proofs.signs.body_word.Goals as goal
 

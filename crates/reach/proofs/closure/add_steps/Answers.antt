@@ -1,8 +1,7 @@
 -- `closure::add_steps` meets its contract.
 use mathlib.Core.Path.{◌≡◌, sym, ap, ◌∙◌, subst}
-use Prim.Native.Nat.{◌-◌, ◌/◌, ◌%◌, ◌≤◌}
+use Prim.Native.Nat.{◌/◌, ◌%◌}
 use native.Mathlib.Omega.{arith}
-use borrow.Author.Rules.{rules}
 use lib.Dec.{ltb}
 use lib.ListN.{get_or}
 use Rattle.bits.specs.Powers.{power_is}
@@ -41,14 +40,13 @@ pub loop-i-smaller : goal.loop-i-smaller
 loop-i-smaller c = omega arith
 
 pub loop-i-preserved : goal.loop-i-preserved
-loop-i-preserved c =
-    (
-      omega arith,
-      steps_more c.requires.0.states_le (letters_le c.requires.0) (view_formed c.requires.0) c.loop-i.invariant.1
-          (grown c.loop-i.rows (c.loop-i.i / 16) _ _ _ c.loop-i.invariant.1.size (omega arith) (omega arith) c.joined.ensures)
-          (ap (ltb (c.loop-i.i % 16)) (power_is c.requires.0.propositions_le c.power_of_two-letters.ensures.is))
-          (c.single-to.ensures ∙ ap (λ j. single (get_or c.args.a.destinations j 0)) (sym (place c.loop-i.i))),
-    )
+loop-i-preserved c = (
+  omega arith,
+  steps_more c.requires.0.states_le (letters_le c.requires.0) (view_formed c.requires.0) c.loop-i.invariant.1
+      (grown c.loop-i.rows (c.loop-i.i / 16) _ _ _ c.loop-i.invariant.1.size (omega arith) (omega arith) c.joined.ensures)
+      (ap (ltb (c.loop-i.i % 16)) (power_is c.requires.0.propositions_le c.power_of_two-letters.ensures.is))
+      (c.single-to.ensures ∙ ap (λ j. single (get_or c.args.a.destinations j 0)) (sym (place c.loop-i.i))),
+)
 
 pub returns : goal.returns
 returns c =

@@ -1,9 +1,6 @@
 -- `closure::close` meets its contract.
-use mathlib.Core.Path.{◌≡◌, subst}
 use Prim.Native.Nat.{◌-◌, ◌≤◌}
-use native.Mathlib.Omega.{arith}
 use Rattle.reach.specs.Closing.{Closed}
-use Rattle.reach.proofs.Closures.{closed_none, closed_more}
 use Rattle.reach.proofs.closure.close.Given as goal
 
 abbrev pub invariant-loop-k : goal.invariant-loop-k

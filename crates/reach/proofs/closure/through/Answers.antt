@@ -1,6 +1,5 @@
 -- `closure::through` meets its contract.
 use mathlib.Core.Path.{◌≡◌, subst}
-use Prim.Native.Nat.{◌-◌, ◌≤◌}
 use native.Mathlib.Omega.{arith}
 use Rattle.reach.specs.Closing.{Through}
 use Rattle.reach.proofs.Stores.{grown}

@@ -1,10 +1,6 @@
 -- `closure::through` meets its contract.
-use mathlib.Core.Path.{◌≡◌, subst}
 use Prim.Native.Nat.{◌-◌, ◌≤◌}
-use native.Mathlib.Omega.{arith}
 use Rattle.reach.specs.Closing.{Through}
-use Rattle.reach.proofs.Stores.{grown}
-use Rattle.reach.proofs.Closures.{through_none, through_more}
 use Rattle.reach.proofs.closure.through.Given as goal
 
 abbrev pub invariant-loop-u : goal.invariant-loop-u

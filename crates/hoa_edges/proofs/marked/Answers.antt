@@ -1,0 +1,13 @@
+-- `marked` meets its contract.
+use mathlib.Core.Path.{subst}
+use Rattle.hoa_marks.specs.Answers.{MarksAnswer}
+use Rattle.hoa_edges.proofs.EdgeLaws.{marks_refused, marks_read}
+use Rattle.hoa_edges.proofs.marked.Goals as goal
+
+pub returns-in-Refused : goal.returns-in-Refused
+returns-in-Refused c =
+    marks_refused _ _ _ _ _ c.requires.1 _ (subst (MarksAnswer c.args.text.now c.args.at c.args.sets) c.in-Refused.is c.marks.ensures)
+
+pub returns-in-Marks : goal.returns-in-Marks
+returns-in-Marks c =
+    marks_read _ _ _ _ _ c.requires.1 _ _ c.requires.0 (subst (MarksAnswer c.args.text.now c.args.at c.args.sets) c.in-Marks.is c.marks.ensures)

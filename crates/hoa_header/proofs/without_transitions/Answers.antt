@@ -1,0 +1,7 @@
+-- `without_transitions` meets its contract.
+use borrow.Author.Rules.{rules}
+use Rattle.hoa_header.proofs.Opened.{unfilled}
+use Rattle.hoa_header.proofs.without_transitions.Goals as goal
+
+pub returns : goal.returns
+returns c = unfilled c.args.items c.empty-automaton.result c.empty-automaton.ensures
