@@ -4,7 +4,7 @@ use Rattle.std.proofs.Common.{sym, ap, ◌∙◌, subst, arith, le-leb, leb-true
 use Rattle.std.proofs.Math.Pow.{pow-lt}
 use Rattle.meaning.specs.Tests.{all}
 use Rattle.meaning.specs.BitSet.{has}
-use Rattle.meaning.specs.MarkSets.{all_has}
+use Rattle.meaning.proofs.FullSets.{all_has}
 use Rattle.bits.specs.Powers.{power_is}
 use Rattle.bits.specs.SingleSets.{has_single}
 use Rattle.acceptance.specs.Masks.{every_set, all_true, OwnSets, own_sets}

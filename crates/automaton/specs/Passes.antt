@@ -1,7 +1,8 @@
 -- What a loop that tests the numbers below n, one after another, knows.
 use Rattle.std.specs.Prelude.{◌≡◌, refl, Bool, true, false, ℕ, ◌+◌, ◌≤◌, ◌<◌}
 use Rattle.std.proofs.Common.{sym, subst, le_antisymm, add-one}
-use Rattle.meaning.specs.TestLaws.{and_true, all_at, all_of, all_off}
+use Rattle.meaning.specs.TestLaws.{and_true, all_at, all_off}
+use Rattle.meaning.proofs.AllLaws.{all_of}
 use Rattle.automaton.specs.Tests.{passes}
 
 pub passes_none : (p : ℕ → Bool) → passes 0 p ≡ true

@@ -2,7 +2,7 @@
 use Rattle.std.specs.Prelude.{◌≡◌, ◌^◌}
 use Rattle.std.proofs.Common.{ap, ◌∙◌}
 use Rattle.meaning.specs.BitSet.{has, set_of}
-use Rattle.meaning.specs.TestLaws.{all_same}
+use Rattle.meaning.proofs.AllLaws.{all_same}
 use Rattle.meaning.specs.MarkSets.{set_of_lt, set_of_same, has_set_of}
 use Rattle.meaning.specs.Automata.{WellFormed, EverySet}
 use Rattle.meaning.specs.Agreement.{Comparable}

@@ -1,11 +1,9 @@
 -- The answers of `line`, from those of the clause step.
 use mathlib.Core.Path.{◌≡◌, refl, subst}
-use mathlib.Core.List.{List, [], ◌∷◌}
+use mathlib.Core.List.{List}
 use mathlib.Core.Option.{Option}
 use Prim.Native.Nat.{ℕ, ◌≤◌}
 use native.Mathlib.Omega.{arith}
-use denote.Enum.Declared.{tag_of, declared}
-use types.Run.{OneOf, miss}
 use lib.IntN.{ℤ, pos}
 use lib.ListN.{length, take, replicate}
 use Rattle.automaton.specs.declared.Automaton.{Automaton}
@@ -16,7 +14,6 @@ use Rattle.clause_sizes.specs.declared.Target.{Target}
 use Rattle.clause_step.specs.declared.Answer.{Answer}
 use Rattle.clause_step.specs.declared.Answer.TheVariants.{Written, Ended, Refused}
 use Rattle.clause_step.specs.declared.Handed.{Handed}
-use Rattle.clause_step.specs.contracts.Answer.{enum}
 use Rattle.clause_step.specs.Step.{TurnedDown, short, outside, dimensions, past_sets, Accepted, StepAnswers, Stepped}
 use Rattle.clause_words.specs.Text.{line_text}
 use Rattle.clause_words.specs.Written.{LineIfRoom}
@@ -35,11 +32,11 @@ module _ (a : Automaton) (τ : Target) (x : ℕ) (e : List ℤ) (h : Handed) (s 
   turned_down (past_sets r v l i o) = past_sets room v l i o
 
   -- no clause was handed out
-  pub line_none : OneOf (1 ∷ 2 ∷ []) (tag_of (declared enum) h.answer) → LineStepped a τ x d d h
+  pub line_none : ((k : ℕ) → h.answer ≡ Written k → ⊥) → LineStepped a τ x d d h
   line_none t = go h.answer t s
     where
-      go : (w : Answer) → OneOf (1 ∷ 2 ∷ []) (tag_of (declared enum) w) → StepAnswers a τ x (replicate 8 (pos 0)) e w h.position → LineAnswers a τ x d d w h.position
-      go (Written k) t s = absurd (miss (1 ∷ 2 ∷ []) 0 tt t)
+      go : (w : Answer) → ((k : ℕ) → w ≡ Written k → ⊥) → StepAnswers a τ x (replicate 8 (pos 0)) e w h.position → LineAnswers a τ x d d w h.position
+      go (Written k) t s = absurd (t k refl)
       go Ended t (ok, (f, w)) = (accepted ok, (f, refl))
       go (Refused g) t (k, p, w) = (turned_down k, p, refl)
 

@@ -7,7 +7,8 @@ use denote.Enum.Declared.{tag_of, declared}
 use lib.Dec.{ltb}
 use lib.Pow.{ones_lt}
 use Rattle.meaning.specs.BitSet.{set_of}
-use Rattle.meaning.specs.BitSetLaws.{has_below, has_same}
+use Rattle.meaning.proofs.FullSets.{has_below}
+use Rattle.meaning.specs.BitSetLaws.{has_same}
 use Rattle.meaning.specs.MarkSets.{has_set_of, set_of_lt}
 use Rattle.automaton.specs.declared.Automaton.{Automaton}
 use Rattle.automaton.specs.Value.{Valid, table}

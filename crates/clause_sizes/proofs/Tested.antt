@@ -1,8 +1,8 @@
 -- The test of sizes: it passes if and only if a file can have them.
-use mathlib.Core.Path.{◌≡◌, sym, ap, ◌∙◌}
+use mathlib.Core.Path.{◌≡◌, sym, ◌∙◌}
 use mathlib.Core.Logic.{◌↔◌}
 use mathlib.Core.Bool.{true, ◌&&◌}
-use Prim.Native.Nat.{ℕ, ◌+◌, ◌*◌, ◌^◌, ◌≤◌, min}
+use Prim.Native.Nat.{ℕ, ◌^◌, ◌≤◌, min}
 use lib.Dec.{leb, eqb}
 use Rattle.bits.specs.Powers.{power_is}
 use Rattle.clause_sizes.specs.declared.Counts.{Counts}

@@ -19,9 +19,9 @@ use Rattle.encoding.specs.NamedFile.{path_place, path_count}
 use Rattle.clause_rows.specs.Rows.{held}
 use Rattle.clause_sizes.specs.declared.Target.{Target}
 use Rattle.clause_sizes.specs.declared.Sizes.{Sizes}
-use Rattle.clause_sizes.specs.Targets.{named, which, task, numbers, last}
+use Rattle.clause_sizes.specs.Targets.{named, which, task}
 use Rattle.clause_sizes.specs.Sizes.{kept_sets, sizes_of, target_of}
-use Rattle.clause_sizes.specs.Numbers.{kept_among, task_in, before, in_row, rank_in, paths_in, Rowed, InFile, number_of, last_variable}
+use Rattle.clause_sizes.specs.Numbers.{before, in_row, rank_in, paths_in, Rowed, InFile, number_of, last_variable}
 
 -- ---- of sizes whose rows are so, with any reference that has the counts
 

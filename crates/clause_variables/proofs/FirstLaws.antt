@@ -1,7 +1,6 @@
 -- The first paths of a row: bounds on the way to their numbers, what the numbers are, and how they are counted.
 use mathlib.Core.Path.{◌≡◌, refl, sym, ap, ◌∙◌, subst}
 use mathlib.Core.Bool.{Bool, true, false, cond, ◌&&◌}
-use mathlib.Core.Logic.{◌↔◌}
 use mathlib.Core.List.{List}
 use Prim.Native.Nat.{ℕ, suc, ◌+◌, ◌-◌, ◌*◌, ◌%◌, ◌^◌, ◌≤◌, ◌<◌}
 use native.Mathlib.Nat.{mul-le-mul, le_refl, add-mul, mod-lt}
@@ -14,7 +13,8 @@ use lib.Dec.{ltb}
 use lib.Pow.{pow_pos}
 use lib.ListN.{length, get_or, set}
 use Rattle.meaning.specs.BitSet.{bit, has}
-use Rattle.meaning.specs.BitSetLaws.{has_zero, has_and, has_below}
+use Rattle.meaning.specs.BitSetLaws.{has_zero, has_and}
+use Rattle.meaning.proofs.FullSets.{has_below}
 use Rattle.meaning.specs.Counting.{total, how_many}
 use Rattle.meaning.specs.CountingLaws.{Filled, filled_none, filled_more, each_at}
 use Rattle.meaning.specs.TestLaws.{and_true, and_left, and_right, on_cond}
@@ -27,7 +27,7 @@ use Rattle.clause_sizes.specs.declared.Sizes.{Sizes}
 use Rattle.clause_sizes.specs.Sizes.{Fitting}
 use Rattle.clause_sizes.specs.Limits.{marks_le, markings_le}
 use Rattle.clause_sizes.specs.Numbers.{kept_among, before, in_row, rank_in, InFile, NumberIfAny}
-use Rattle.clause_sizes.specs.Conjunctions.{false_not, both, less}
+use Rattle.clause_sizes.specs.Conjunctions.{false_not}
 use Rattle.clause_variables.specs.declared.firsts.FirstRow.{FirstRow}
 use Rattle.clause_variables.specs.FirstPaths.{FirstPaths}
 use Rattle.clause_variables.specs.FirstRows.{Cut, first_at, no_row, FirstRowOf}

@@ -2,8 +2,9 @@
 use Rattle.std.specs.Prelude.{◌≡◌, List, ℕ, suc, ◌+◌, ◌*◌, ◌≤◌, ◌<◌, length}
 use Rattle.std.proofs.Common.{le_trans, mul-le-mul_left, mul-le-mul_right, arith}
 use Rattle.meaning.specs.FirstWord.{FirstWord, Precedes}
-use Rattle.meaning.specs.Decision.{Difference, ShowsWithin, shows_any}
-use Rattle.meaning.specs.FirstWordLaws.{first_difference, first_word_short, first_of_short}
+use Rattle.meaning.specs.Decision.{Difference, ShowsWithin}
+use Rattle.meaning.proofs.Decided.{shows_any}
+use Rattle.meaning.proofs.FirstWordLaws.{first_difference, first_word_short, first_of_short}
 use Rattle.automaton.specs.declared.Automaton.{Automaton}
 use Rattle.automaton.specs.Value.{Valid}
 use Rattle.automaton.specs.View.{view}

@@ -3,8 +3,8 @@ use Rattle.std.specs.Prelude.{◌≡◌, List, ◌++◌, ℕ, ◌≤◌, length,
 use Rattle.std.proofs.Common.{subst, ⊎_elim, arith}
 use Rattle.meaning.specs.Agreement.{Agree}
 use Rattle.meaning.specs.FirstWord.{FirstWord}
-use Rattle.meaning.specs.FirstWordLaws.{shows_difference}
-use Rattle.meaning.specs.FirstWordExists.{agree_or_first}
+use Rattle.meaning.proofs.FirstWordLaws.{shows_difference}
+use Rattle.meaning.proofs.FirstWordExists.{agree_or_first}
 use Rattle.automaton.specs.declared.Automaton.{Automaton}
 use Rattle.refusals.specs.declared.Refusal.TheVariants.{Outside, Differ}
 use Rattle.automaton.specs.Value.{Valid, letters}

@@ -4,7 +4,7 @@ use Rattle.std.proofs.Common.{sym, ◌∙◌, subst, inl, inr, arith}
 use Rattle.std.proofs.Math.Decide.{dec_lt, ℕ_discrete}
 use Rattle.compare_shortest.specs.declared.Verdict.TheVariants.{Same, Differ}
 use Rattle.meaning.specs.FirstWord.{Smaller, Precedes}
-use Rattle.meaning.specs.WordOrder.{precedes_by}
+use Rattle.meaning.proofs.WordOrder.{precedes_by}
 use Rattle.compare_shortest.specs.Answer.{Within, Answer}
 use Rattle.compare_shortest.specs.SearchOrder.{NotLater, earlier_trans, not_later_length, earlier_smaller, not_later_smaller}
 use Rattle.compare_shortest.specs.SearchWords.{back, word, length_word, word_over, word_run}

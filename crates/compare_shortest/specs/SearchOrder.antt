@@ -2,7 +2,7 @@
 use Rattle.std.specs.Prelude.{◌≡◌, ◌⊎◌, List, [], ◌∷◌, ◌++◌, ℕ, suc, ◌≤◌, ◌<◌, length}
 use Rattle.std.proofs.Common.{sym, ap, ◌∙◌, subst, inl, inr, append-nil, le_of_eq, arith, length-append}
 use Rattle.meaning.specs.FirstWord.{Smaller}
-use Rattle.meaning.specs.WordOrder.{smaller_append, smaller_front}
+use Rattle.meaning.proofs.WordOrder.{smaller_append, smaller_front}
 
 abbrev pub Earlier : List ℕ → List ℕ → Type 0
 Earlier u v = (length u < length v) ⊎ ((length u ≡ length v) × Smaller u v)

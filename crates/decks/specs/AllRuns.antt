@@ -8,7 +8,7 @@ use Rattle.std.proofs.Math.Arith.{lt-one}
 use Rattle.meaning.specs.Agreement.{Agree}
 use Rattle.meaning.specs.BitSet.{set_of}
 use Rattle.meaning.specs.ClosedLoop.{CyclesAgree}
-use Rattle.meaning.specs.CycleLemma.{cycles→agree}
+use Rattle.meaning.proofs.CycleLemma.{cycles→agree}
 use Rattle.automaton.specs.declared.Automaton.{Automaton}
 use Rattle.refusals.specs.declared.Refusal.TheVariants.{Literal, NoStep}
 use Rattle.refusals.specs.Refused.{row}

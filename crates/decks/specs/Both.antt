@@ -6,11 +6,11 @@ use mathlib.Core.List.{[], ◌∷◌, ◌++◌, cons≢nil}
 use Rattle.std.proofs.Math.Arith.{lt-one}
 use Rattle.meaning.specs.BitSet.{has, set_of}
 use Rattle.meaning.specs.ClosedLoop.{CyclesAgree}
-use Rattle.meaning.specs.CycleLemma.{agree→cycles}
+use Rattle.meaning.proofs.CycleLemma.{agree→cycles}
 use Rattle.automaton.specs.View.{view}
 use Rattle.automaton.specs.ViewLaws.{view_formed}
 use Rattle.encoding.specs.Clauses.{each, only, not_marks, totality, initial, successor, extension, closure, exactly_one, group₁, group₂, group₃, group₄, file as task-file, decoded}
-use Rattle.encoding.specs.NamedFile.{named_encodes}
+use Rattle.encoding.proofs.NamedTheorem.{named_encodes}
 use Rattle.automaton.specs.Bytes.{bytes}
 use Rattle.clause_sizes.specs.Targets.{every, named, task, numbers, file}
 use Rattle.hoa_text.specs.Grammar.{gives}

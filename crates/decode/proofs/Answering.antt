@@ -15,9 +15,6 @@ use Rattle.clause_sizes.specs.Targets.{Proper}
 use Rattle.compare.specs.Compared.{prefix_room, loop_room}
 use Rattle.solver_text.specs.declared.Reader.{Reader}
 use Rattle.solver_text.specs.declared.Reply.{Reply}
-use denote.Enum.Declared.{tag_of, declared}
-use Rattle.solver_text.specs.contracts.Answer.{enum}
-use Rattle.solver_text.specs.declared.Answer.{Answer}
 use Rattle.solver_text.specs.declared.Answer.TheVariants.{Accepted, Refused as TurnedDown}
 use Rattle.solver_scan.specs.declared.Verdict.{Verdict}
 use Rattle.solver_scan.specs.declared.Verdict.TheVariants.{Unstated, Satisfiable, Unsatisfiable, Unknown as NotKnown}
@@ -29,10 +26,6 @@ use Rattle.decode.specs.Answers.{returned, whole, said, without, Untouched, ByAs
 -- what an answer returns is told by the answer
 pub untouched : {p l : List ℕ} {x y : Decoded} → x ≡ y → Untouched p p l l x y (returned y.answer)
 untouched e = (e, refl, refl, ap (λ x. returned x.answer) e)
-
-pub accepted_tag : (x : Answer) → tag_of (declared enum) x ≡ 0 → x ≡ Accepted
-accepted_tag Accepted e = refl
-accepted_tag (TurnedDown x) e = absurd (omega arith)
 
 -- ---- the verdict
 

@@ -1,9 +1,8 @@
 -- The decoder's answer by the comparison's.
-use mathlib.Core.Path.{◌≡◌, refl, sym, ap, ◌∙◌}
+use mathlib.Core.Path.{◌≡◌, sym, ap, ◌∙◌}
 use mathlib.Core.List.{List}
 use Prim.Native.Nat.{ℕ}
 use native.Mathlib.Omega.{arith}
-use denote.Enum.Declared.{tag_of, declared}
 use lib.ListN.{length}
 use Rattle.automaton.specs.declared.Automaton.{Automaton}
 use Rattle.refusals.specs.declared.Refusal.{Refusal}
@@ -11,15 +10,10 @@ use Rattle.refusals.specs.declared.Refusal.TheVariants.{Differ}
 use Rattle.compare.specs.declared.Comparison.{Comparison}
 use Rattle.compare.specs.declared.Comparison.TheVariants.{Same, Refused as Objects}
 use Rattle.compare.specs.Compared.{Compared, Shown, Room}
-use Rattle.compare.specs.contracts.Comparison.{enum}
 use Rattle.decode.specs.declared.Answer.TheVariants.{Refused}
 use Rattle.decode.specs.declared.Decoded.{Decoded}
 use Rattle.decode.specs.Answers.{returned, found, without, Differs, ByComparison}
 use Rattle.decode.specs.Ready.{Comparable}
-
-pub same_tag : (y : Comparison) → tag_of (declared enum) y ≡ 0 → y ≡ Same
-same_tag Same e = refl
-same_tag (Objects f) e = absurd (omega arith)
 
 clash : {P : Type 0} (f : Refusal) → Same ≡ Objects f → P
 clash f e = let z : ◌≡◌ {A = ℕ} 0 1 = cc in absurd (omega arith)

@@ -9,8 +9,9 @@ use Rattle.automaton.specs.View.{view}
 use Rattle.automaton.specs.ViewLaws.{view_formed}
 use Rattle.automaton.specs.Equality.{Same, equal_values}
 use Rattle.encoding.specs.Clauses.{Assignment, Satisfies, Equivalent, SameTable}
-use Rattle.encoding.specs.Constraints.{constraints}
-use Rattle.encoding.specs.NamedFile.{named_numbering, named_well_posed, named_encodes}
+use Rattle.encoding.proofs.ConstraintLaws.{constraints}
+use Rattle.encoding.specs.NamedFile.{named_numbering}
+use Rattle.encoding.proofs.NamedTheorem.{named_well_posed, named_encodes}
 use Rattle.encoding.specs.SameTables.{same_agree}
 use Rattle.clause_sizes.specs.declared.Target.{Target}
 use Rattle.clause_sizes.specs.Targets.{Proper, task, numbers, file, named}

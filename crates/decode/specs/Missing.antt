@@ -3,7 +3,8 @@ use Rattle.std.specs.Prelude.{◌≡◌, ◌⊎◌, Bool, true, false, ℕ, zero
 use Rattle.std.proofs.Common.{sym, ap, ◌∙◌, inl, inr, true≢false, arith, below_more}
 use borrow.Author.Tests.{lt-ltb, ltb-true}
 use Rattle.meaning.specs.Tests.{all}
-use Rattle.meaning.specs.TestLaws.{all_at, all_of, truth}
+use Rattle.meaning.specs.TestLaws.{all_at, truth}
+use Rattle.meaning.proofs.AllLaws.{all_of}
 use Rattle.automaton.specs.declared.Automaton.{Automaton}
 use Rattle.automaton.specs.Value.{letters}
 use Rattle.encoding.specs.Clauses.{Assignment}

@@ -14,7 +14,8 @@ use Rattle.automaton.specs.View.{view}
 use Rattle.automaton.specs.Letters.{letters_le}
 use Rattle.automaton.specs.Rows.{rows_length, rows_at}
 use Rattle.encoding.specs.Variables.{step, mark}
-use Rattle.encoding.specs.NamedFile.{step_first, mark_first}
+use Rattle.encoding.specs.NamedFile.{step_first}
+use Rattle.encoding.proofs.NamedTheorem.{mark_first}
 use Rattle.encoding.specs.Clauses.{Assignment, lowest, destination, marks_on, SameTable}
 use Rattle.encoding.specs.Lowest.{lowest_true, lowest_same, lowest_passes}
 use Rattle.clause_sizes.specs.declared.Target.{Target}

@@ -3,7 +3,7 @@ use Rattle.std.specs.Prelude.{◌≡◌, List, ◌++◌, ℕ, ◌≤◌, length,
 use Rattle.std.proofs.Common.{sym, ap, ap₂, ◌∙◌, arith}
 use Rattle.std.proofs.Math.Decide.{ℕ_discrete, dec_le}
 use Rattle.meaning.specs.Agreement.{Agree}
-use Rattle.meaning.specs.FirstWordLaws.{first_word_once}
+use Rattle.meaning.proofs.FirstWordLaws.{first_word_once}
 use Rattle.automaton.specs.declared.Automaton.{Automaton}
 use Rattle.refusals.specs.declared.Refusal.TheVariants.{Differ}
 use Rattle.automaton.specs.Value.{Valid}

@@ -7,9 +7,10 @@ use Rattle.std.proofs.lemmas.Bool.{false≢true}
 use Rattle.std.proofs.Math.Option.{Option, none, some, some_inj, some-ne-none}
 use Rattle.std.proofs.Math.Decide.{ℕ_discrete, dec_le, dec_lt}
 use Rattle.meaning.specs.Agreement.{Agree}
-use Rattle.meaning.specs.Decision.{decide_agree}
+use Rattle.meaning.proofs.Decided.{decide_agree}
 use Rattle.meaning.specs.Tests.{all}
-use Rattle.meaning.specs.TestLaws.{all_at, all_of}
+use Rattle.meaning.specs.TestLaws.{all_at}
+use Rattle.meaning.proofs.AllLaws.{all_of}
 use Rattle.acceptance.specs.Masks.{OwnSets}
 use Rattle.automaton.specs.declared.Automaton.{Automaton}
 use Rattle.refusals.specs.declared.Code.{Code}

@@ -13,7 +13,7 @@ use Rattle.clause_sizes.specs.declared.Target.{Target}
 use Rattle.clause_sizes.specs.Targets.{Proper, last, kept}
 use Rattle.compare.specs.declared.Comparison.{Comparison}
 use Rattle.compare.specs.Compared.{Compared, prefix_room, loop_room}
-use Rattle.hoa_text.specs.ReadBack.{read_back}
+use Rattle.hoa_text.proofs.ReadBack.{read_back}
 use Rattle.hoa_text.specs.Reading.{read}
 use Rattle.hoa_text.specs.Written.{text}
 use Rattle.clause_indices.specs.Indices.{clause_room}

@@ -3,10 +3,10 @@
 use Rattle.std.specs.Prelude.{◌≡◌, refl, ◌≢◌, ◌⊎◌, ◌↔◌, List, ℕ, suc, ◌+◌, ◌*◌, ◌≤◌, ◌<◌, length, take, drop}
 use Rattle.std.proofs.Common.{ap, ◌∙◌, inl, inr, take_at}
 use Rattle.meaning.specs.Agreement.{Agree, AgreeEverywhere, Comparable}
-use Rattle.meaning.specs.AllWords.{agree_everywhere}
+use Rattle.meaning.proofs.AllWords.{agree_everywhere}
 use Rattle.meaning.specs.FirstWord.{FirstWord}
-use Rattle.meaning.specs.FirstWordLaws.{first_word_once, first_word_flip}
-use Rattle.meaning.specs.FirstWordExists.{agree_or_first}
+use Rattle.meaning.proofs.FirstWordLaws.{first_word_once, first_word_flip}
+use Rattle.meaning.proofs.FirstWordExists.{agree_or_first}
 use Rattle.automaton.specs.declared.Automaton.{Automaton}
 use Rattle.automaton.specs.Value.{Valid}
 use Rattle.automaton.specs.View.{view}
@@ -23,7 +23,7 @@ use Rattle.search_rule.specs.declared.Search.{Search}
 use Rattle.search.specs.declared.Reply as search
 use Rattle.search.specs.Replies.{Found}
 use Rattle.hoa_text.specs.Reading.{read}
-use Rattle.hoa_text.specs.ReadBack.{read_back}
+use Rattle.hoa_text.proofs.ReadBack.{read_back}
 use Rattle.hoa_text.specs.Written.{text}
 use Rattle.hoa_read.specs.declared.Reading.{Reading}
 use Rattle.hoa_read.specs.declared.Answer.TheVariants.{Read}

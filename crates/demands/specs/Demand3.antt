@@ -14,7 +14,8 @@ use Rattle.automaton.specs.View.{view}
 use Rattle.automaton.specs.ViewLaws.{view_formed}
 use Rattle.encoding.specs.Clauses.{Assignment, Satisfies, group₄}
 use Rattle.encoding.specs.Variables.{step, mark, path, sharing}
-use Rattle.encoding.specs.NamedFile.{step_number, mark_number, path_number, named_length, first_sharing, named_encodes}
+use Rattle.encoding.specs.NamedFile.{step_number, mark_number, path_number, named_length, first_sharing}
+use Rattle.encoding.proofs.NamedTheorem.{named_encodes}
 use Rattle.compare.specs.Compared.{prefix_room, loop_room}
 use Rattle.clause_sizes.specs.declared.Listing.{Listing}
 use Rattle.clause_sizes.specs.declared.Listing.TheVariants.{First}

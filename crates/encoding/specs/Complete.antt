@@ -11,7 +11,7 @@ use Rattle.meaning.specs.BitSet.{has}
 use Rattle.meaning.specs.Walk.{run}
 use Rattle.meaning.specs.Run.{after, seen}
 use Rattle.meaning.specs.ClosedLoop.{CyclesAgree}
-use Rattle.meaning.specs.CycleLemma.{agree→cycles}
+use Rattle.meaning.proofs.CycleLemma.{agree→cycles}
 use Rattle.meaning.specs.MarkSets.{set_of_has, set_of_same}
 use Rattle.encoding.specs.Variables.{Task, Var, step, mark, path, Present}
 use Rattle.encoding.specs.Clauses.{marks_on, ◌∪◌}

@@ -17,9 +17,7 @@ pub mod Numbering
 pub mod Blocks
 pub mod KeptPaths
 pub mod History
-pub mod Sound
 pub mod Paths
 pub mod Complete
 pub mod Theorem
-pub mod SameNumbers
 pub mod NamedFile

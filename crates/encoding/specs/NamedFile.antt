@@ -1,24 +1,17 @@
--- THE FILE THAT THE CALLER NAMES: the theorem, the numbers and the counts for it.
-use Rattle.std.specs.Prelude.{◌≡◌, true, List, ℕ, ◌+◌, ◌-◌, ◌*◌, ◌^◌, ◌≤◌, ◌<◌, length}
+-- THE FILE THAT THE CALLER NAMES: the numbers and the counts for it.
+use Rattle.std.specs.Prelude.{◌≡◌, ℕ, ◌+◌, ◌-◌, ◌*◌, ◌^◌, ◌≤◌, length}
 use Rattle.std.proofs.Math.Path.{refl}
 use Rattle.std.proofs.Common.{sym, ap, ap₂, ◌∙◌, arith}
 use Rattle.std.proofs.Math.Arith.{digits_lt}
-use Rattle.meaning.specs.Automata.{Aut, WellFormed}
-use Rattle.meaning.specs.Agreement.{Over}
-use Rattle.meaning.specs.Walk.{run}
-use Rattle.meaning.specs.ComponentLaws.{closed_together}
-use Rattle.meaning.specs.BitSet.{has}
+use Rattle.meaning.specs.Automata.{Aut}
 use Rattle.meaning.specs.Counting.{total}
-use Rattle.meaning.specs.MarkSets.{set_of_same}
 use Rattle.encoding.specs.Variables.{Task, Var, step, mark, path, Present, sharing}
 use Rattle.encoding.specs.Clauses.{group₄}
 use Rattle.encoding.specs.Named.{Named, Listing, first, second, kept_by, paths_by, KindFor, task_for, marks_for, paths_for, number_for, table_variables_for, variables_for, file_for}
-use Rattle.encoding.specs.WellPosed.{WellPosed}
 use Rattle.encoding.specs.Numbering.{Numbering, MarkLaws, PathLaws, numbering, variable, representative, variable_number}
 use Rattle.encoding.specs.Blocks.{transition_marks_laws, mark_at_place, all_paths_laws}
 use Rattle.encoding.specs.KeptPaths.{row, rank, kept_paths_laws, kept_place, kept_size}
 use Rattle.meaning.specs.Totals.{total_same, total_const, how_many_all}
-use Rattle.encoding.specs.Theorem.{Encodes, encodes}
 use Rattle.encoding.specs.Counts.{length_file, sharing_all}
 
 -- ---- what depends on the list
@@ -51,12 +44,6 @@ module _ (R : Aut) (n m acceptance : ℕ) where
       let squares : n * r * n * r ≡ n * n * (r * r) = omega arith in
       ap (λ x. x * 2 ^ m * 2 ^ R.sets) (squares ∙ ap (λ x. n * n * x) (sym (all_rows r)))
   size_by_rows second = kept_size (task_for R (of second))
-
-  -- a closed walk of the reference stays in one component, so the second list loses nothing
-  cycles_by : WellFormed R → (w : Listing) (u v : ℕ) (x y : List ℕ) → u < R.states → Over R.letters x → Over R.letters y → run R.step u x ≡ v → run R.step v y ≡ u
-      → kept_by w R u v ≡ true
-  cycles_by F first u v x y hu ox oy ex ey = refl
-  cycles_by F second u v x y hu ox oy ex ey = closed_together R F u v x y hu ox oy ex ey
 
 -- ---- the named file
 
@@ -116,16 +103,6 @@ module _ (R : Aut) (t : Named) where
   -- steps and marks come first
   pub step_first : (q l p : ℕ) → Present (task_for R t) (step q l p) → number_for R t (step q l p) ≤ table_variables_for R t
   step_first q l p h = omega (arith, digits_lt (digits_lt h.0 h.1) h.2)
-
-  pub mark_first : (q l i p : ℕ) → Present (task_for R t) (mark q l i p) → number_for R t (mark q l i p) ≤ table_variables_for R t
-  mark_first q l i p h = omega (arith, marks.place_lt q l i p h)
-
-  -- THE THEOREM
-  pub named_well_posed : WellFormed R → 0 < n → WellPosed (task_for R t)
-  named_well_posed F some = record { formed = F; sets_owned = λ S T e. ap (has t.acceptance) (set_of_same m S T e); some_state = some; cycles_kept = cycles_by R n m t.acceptance F t.listing }
-
-  pub named_encodes : WellFormed R → 0 < n → Encodes (task_for R t) (number_for R t) (variables_for R t) (KindFor t)
-  named_encodes F some = encodes (named_well_posed F some) named_numbering
 
   -- C of the header
   pub named_length : length (file_for R t)

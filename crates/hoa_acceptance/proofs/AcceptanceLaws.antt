@@ -9,7 +9,8 @@ use lib.Bits.{bit_and, mask_lt}
 use denote.Enum.Declared.{tag_of, declared}
 use types.Run.{OneOf}
 use Rattle.meaning.specs.BitSet.{has, set_of}
-use Rattle.meaning.specs.BitSetLaws.{has_and, has_below, has_same}
+use Rattle.meaning.specs.BitSetLaws.{has_and, has_same}
+use Rattle.meaning.proofs.FullSets.{has_below}
 use Rattle.meaning.specs.MarkSets.{set_of_lt, set_of_same, has_set_of}
 use Rattle.bits.specs.Powers.{power_is, power_le}
 use Rattle.refusals.specs.declared.Refusal.{Refusal}

@@ -10,7 +10,8 @@ use lib.Bits.{bit_and, bit_or, bit_xor}
 use lib.Dec.{eqb}
 use lib.Pow.{pow_mono}
 use Rattle.meaning.specs.BitSet.{digit, has}
-use Rattle.meaning.specs.BitSetLaws.{has_or, has_and, has_zero, has_all, has_not}
+use Rattle.meaning.specs.BitSetLaws.{has_or, has_and, has_zero}
+use Rattle.meaning.proofs.FullSets.{has_all, has_not}
 use Rattle.bits.specs.SingleSets.{has_single}
 use Rattle.hoa_text.specs.Formulas.{Formula, proposition, top, bottom, negation, conjunction, disjunction, holds}
 use Rattle.hoa_formulas.specs.Answers.{Satisfy}

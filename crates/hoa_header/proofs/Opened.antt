@@ -218,23 +218,23 @@ module _ (s : List ℕ) (i : ℕ) (c : Code.Items) (e : ℕ) (f : ItemsSoFar s i
       go a (Answer.Refused z) x = (f.is ∙ repeat_refuses item_read item_shrinks f.items (left s e) (here ∙ ap (λ y. then y opened) x.0), x.1)
 
   -- neither
-  pub no_item : (o : ℕ) (t : Token) → Reads s e t → OneOf (0 ∷ 2 ∷ 3 ∷ 4 ∷ 6 ∷ 7 ∷ 8 ∷ 9 ∷ 10 ∷ []) (tag_of (declared enum) t) → o ≡ at (left s e)
+  pub no_item : (o : ℕ) (t : Token) → Reads s e t → ((o k : ℕ) → t ≡ Item o k → ⊥) → ((o : ℕ) → t ≡ Body o → ⊥) → o ≡ at (left s e)
       → (r : HeaderRead) → r ≡ record { answer = Answer.Refused (Form o); automaton = empty } → ReadsItems s i r
   unfolding item_read
-  no_item o t g k q r p = refused_here (Form o) (ap (item_read f.items) g.is ∙ go f.items t k ∙ ap (λ o. refuses (Form o)) (sym (q ∙ ap at g.is))) r p
+  no_item o t g k b q r p = refused_here (Form o) (ap (item_read f.items) g.is ∙ go f.items t k b ∙ ap (λ o. refuses (Form o)) (sym (q ∙ ap at g.is))) r p
     where
-      go : (h : Items) (t : Token) → OneOf (0 ∷ 2 ∷ 3 ∷ 4 ∷ 6 ∷ 7 ∷ 8 ∷ 9 ∷ 10 ∷ []) (tag_of (declared enum) t) → item_read h (stream s t) ≡ refuses (Form (at (stream s t)))
-      go h (Word o e) g = refl
-      go h (Item o e) g = absurd (miss (0 ∷ 2 ∷ 3 ∷ 4 ∷ 6 ∷ 7 ∷ 8 ∷ 9 ∷ 10 ∷ []) 1 tt g)
-      go h (Number o v e) g = refl
-      go h (Quoted o e) g = refl
-      go h (Sign o b) g = rw (and-false (eqb 45 b))
-      go h (Body o) g = absurd (miss (0 ∷ 2 ∷ 3 ∷ 4 ∷ 6 ∷ 7 ∷ 8 ∷ 9 ∷ 10 ∷ []) 5 tt g)
-      go h (End o) g = refl
-      go h (Abort o) g = refl
-      go h (Unread o e) g = refl
-      go h (Over o) g = refl
-      go h (Broken o r) g = refl
+      go : (h : Items) (t : Token) → ((o k : ℕ) → t ≡ Item o k → ⊥) → ((o : ℕ) → t ≡ Body o → ⊥) → item_read h (stream s t) ≡ refuses (Form (at (stream s t)))
+      go h (Word o e) k b = refl
+      go h (Item o e) k b = absurd (k o e refl)
+      go h (Number o v e) k b = refl
+      go h (Quoted o e) k b = refl
+      go h (Sign o c) k b = rw (and-false (eqb 45 c))
+      go h (Body o) k b = absurd (b o refl)
+      go h (End o) k b = refl
+      go h (Abort o) k b = refl
+      go h (Unread o e) k b = refl
+      go h (Over o) k b = refl
+      go h (Broken o r) k b = refl
 
 -- ---- `HOA: v1`
 

@@ -1,15 +1,13 @@
 -- Laws of the end: missing states and edges, and what follows `--END--`.
 use mathlib.Core.Path.{◌≡◌, refl, sym, ap, ◌∙◌, subst}
 use mathlib.Core.Bool.{Bool, true, false, not, cond}
-use mathlib.Core.List.{List, [], ◌∷◌}
+use mathlib.Core.List.{List}
 use mathlib.Core.Option.{Option, none, some}
 use Prim.Native.Nat.{ℕ, ◌^◌, ◌≤◌, ◌<◌, min}
 use native.Mathlib.Omega.{arith}
 use borrow.Author.Tests.{not-false}
 use lib.Bits.{bit_xor}
 use lib.ListN.{get_or}
-use denote.Enum.Declared.{tag_of, declared}
-use types.Run.{OneOf, miss}
 use Rattle.meaning.specs.BitSet.{has}
 use Rattle.meaning.specs.BitSetLaws.{has_not}
 use Rattle.automaton.specs.declared.Automaton.{Automaton}
@@ -21,13 +19,11 @@ use Rattle.hoa_text.specs.Grammar.{at, gives, refuses}
 use Rattle.hoa_text.specs.Header.{Header}
 use Rattle.hoa_text.specs.Body.{Table, letters}
 use Rattle.hoa_text.specs.Reading.{made, no_body, no_edge, whole, ended}
-use Rattle.hoa_text.specs.Tokens.{left}
 use Rattle.hoa_text.specs.First.{none_first, first_some}
+use Rattle.hoa_text.specs.Tokens.{left}
 use Rattle.hoa_tokens.specs.declared.Token.{Token}
 use Rattle.hoa_tokens.specs.declared.Token.TheVariants.{Word, Item, Number, Quoted, Sign, Abort, Unread, Over, Broken}
-use Rattle.hoa_tokens.specs.declared.Token.TheVariants as Token
 use Rattle.hoa_tokens.specs.Answers.{stream, Reads}
-use Rattle.hoa_tokens.specs.contracts.Token.{enum}
 use Rattle.hoa_body.specs.declared.Table as Code
 use Rattle.hoa_body.specs.Answers.{Bounded, Opens, Holds}
 use Rattle.hoa_body.proofs.OpenedLaws.{states_are, letters_are}
@@ -164,22 +160,20 @@ module _ (s : List ℕ) (i : ℕ) (a : Automaton) (u : Code.Table) where
   pub ended_broken : (o p : ℕ) → Reads s i (Broken o p) → (r : Reading) → r ≡ told (refuses (Form o)) → EndedAnswer s i a u r
   ended_broken o p k r e h t opens g = e ∙ sym (ap (λ u. told (ended h t u)) k.is)
 
-  abbrev pub tokens : List ℕ
-  tokens = 0 ∷ 1 ∷ 2 ∷ 3 ∷ 4 ∷ 5 ∷ 6 ∷ 7 ∷ 8 ∷ []
-
-  pub ended_token : (x : Token) → Reads s i x → OneOf tokens (tag_of (declared enum) x) → (o : ℕ) → o ≡ at (left s i) → (r : Reading) → r ≡ told (refuses (Form o)) → EndedAnswer s i a u r
-  ended_token x k w o p r e h t opens g =
-      e ∙ ap (λ o. told (refuses (Form o))) (p ∙ ap at k.is) ∙ sym (ap (λ u. told (ended h t u)) k.is ∙ ap told (go x w))
+  pub ended_token : (x : Token) → Reads s i x → ((o : ℕ) → x ≡ Over o → ⊥) → ((o p : ℕ) → x ≡ Broken o p → ⊥) → (o : ℕ) → o ≡ at (left s i)
+      → (r : Reading) → r ≡ told (refuses (Form o)) → EndedAnswer s i a u r
+  ended_token x k over broken o p r e h t opens g =
+      e ∙ ap (λ o. told (refuses (Form o))) (p ∙ ap at k.is) ∙ sym (ap (λ u. told (ended h t u)) k.is ∙ ap told (go x over broken))
     where
-      go : (x : Token) → OneOf tokens (tag_of (declared enum) x) → ended h t (stream s x) ≡ refuses (Form (at (stream s x)))
-      go (Word o e) w = refl
-      go (Item o e) w = refl
-      go (Number o v e) w = refl
-      go (Quoted o e) w = refl
-      go (Sign o b) w = refl
-      go (Token.Body o) w = refl
-      go (Token.End o) w = refl
-      go (Abort o) w = refl
-      go (Unread o e) w = refl
-      go (Over o) w = absurd (miss tokens 9 tt w)
-      go (Broken o r) w = absurd (miss tokens 10 tt w)
+      go : (x : Token) → ((o : ℕ) → x ≡ Over o → ⊥) → ((o p : ℕ) → x ≡ Broken o p → ⊥) → ended h t (stream s x) ≡ refuses (Form (at (stream s x)))
+      go (Word o e) over broken = refl
+      go (Item o e) over broken = refl
+      go (Number o v e) over broken = refl
+      go (Quoted o e) over broken = refl
+      go (Sign o b) over broken = refl
+      go (Token.Body o) over broken = refl
+      go (Token.End o) over broken = refl
+      go (Abort o) over broken = refl
+      go (Unread o e) over broken = refl
+      go (Over o) over broken = absurd (over o refl)
+      go (Broken o r) over broken = absurd (broken o r refl)

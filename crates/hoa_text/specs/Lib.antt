@@ -17,7 +17,6 @@ pub mod BodyProgress
 pub mod HeaderFits
 pub mod BodyInduction
 pub mod TableFits
-pub mod ListedFirst
 pub mod Made
 pub mod Accepted
 pub mod Offsets
@@ -25,17 +24,5 @@ pub mod RunOffsets
 pub mod QuotedOffsets
 pub mod SignOffsets
 pub mod FirstByte
-pub mod WrittenTokens
-pub mod WrittenFormulas
-pub mod WrittenLabels
-pub mod WrittenMarks
-pub mod WrittenBody
-pub mod WrittenAcceptance
-pub mod WrittenHeader
 pub mod Lengths
-pub mod ConditionLength
-pub mod WrittenLength
-pub mod ReadBack
 pub mod Examples
-pub mod BodyExamples
-pub mod FormulaExamples

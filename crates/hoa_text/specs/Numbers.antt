@@ -1,12 +1,12 @@
 -- Laws of numbers in a text: their digits, their value digit by digit, and that saturating changes no comparison with a limit.
-use Rattle.std.specs.Prelude.{◌≡◌, refl, ◌↔◌, true, false, List, [], ◌∷◌, ◌++◌, ℕ, suc, ◌+◌, ◌-◌, ◌*◌, ◌≤◌, ◌<◌, min, leb, eqb, length, get_or, take, drop}
+use Rattle.std.specs.Prelude.{◌≡◌, ◌↔◌, true, false, List, [], ◌∷◌, ◌++◌, ℕ, suc, ◌+◌, ◌≤◌, ◌<◌, min, leb, eqb, length, get_or, take, drop}
 use Rattle.std.proofs.Common.{ap, ◌∙◌, arith, leb-true, le-leb, take-suc, length-take-le}
 use Rattle.std.proofs.Math.Bool.{and-false}
 use Rattle.std.proofs.lemmas.Bool.{lt-leb}
 use Rattle.std.proofs.Math.Seq.{slice, slice-cons, slice_empty}
 use Rattle.std.proofs.lemmas.List.{drop-append-le}
 use Rattle.meaning.specs.TestLaws.{and_left}
-use Rattle.hoa_text.specs.Tokens.{digit, decimal_value, leading_zero, value}
+use Rattle.hoa_text.specs.Tokens.{digit, leading_zero}
 
 -- ---- digits
 
@@ -28,16 +28,6 @@ above_digits b h = rw (lt-leb b 57 h) (and-false (leb 48 b))
 pub saturates : (v limit : ℕ) → limit ≤ 255 → (min v 255 < limit) ↔ (v < limit)
 saturates v limit h = (λ g. omega arith, λ g. omega arith)
 
-decimal_value_more : (v : ℕ) (w : List ℕ) (b : ℕ) → decimal_value v (w ++ (b ∷ [])) ≡ decimal_value v w * 10 + (b - 48)
-decimal_value_more v [] b = refl
-decimal_value_more v (c ∷ w) b = decimal_value_more (v * 10 + (c - 48)) w b
-
-value_more : (w : List ℕ) (b : ℕ) → value (w ++ (b ∷ [])) ≡ min (value w * 10 + (b - 48)) 255
-value_more w b = ap (λ n. min n 255) (decimal_value_more 0 w b) ∙ saturated (decimal_value 0 w) (b - 48)
-  where
-    saturated : (n d : ℕ) → min (n * 10 + d) 255 ≡ min (min n 255 * 10 + d) 255
-    saturated n d = omega arith
-
 -- ---- the digits from i up to e
 
 module _ (s : List ℕ) (i e : ℕ) where
@@ -45,10 +35,6 @@ module _ (s : List ℕ) (i e : ℕ) where
   slice_more h g =
       let a : e + 1 ≡ suc e = omega arith in
       ap (λ k. drop i (take k s)) a ∙ ap (drop i) (take-suc s e 0 g) ∙ drop-append-le i (take e s) (get_or s e 0 ∷ []) (omega (arith, length-take-le e s (omega arith)))
-
-  -- one more digit
-  pub value_next : i ≤ e → e < length s → value (slice i (e + 1) s) ≡ min (value (slice i e s) * 10 + (get_or s e 0 - 48)) 255
-  value_next h g = ap value (slice_more h g) ∙ value_more (slice i e s) (get_or s e 0)
 
   pub leads_zero : i + 1 < e → e ≤ length s → leading_zero (slice i e s) ≡ eqb (get_or s i 0) 48
   leads_zero h g = ap leading_zero (slice-cons i e s 0 (omega arith) g ∙ ap {B = List ℕ} (λ w. get_or s i 0 ∷ w) (slice-cons (suc i) e s 0 (omega arith) g))

@@ -17,7 +17,8 @@ use Rattle.hoa_text.specs.Basics.{is_some, begins}
 use Rattle.hoa_text.specs.Tokens.{blank, digit, opens_word, in_word, sign, token, leading_zero, value, piece, left}
 use Rattle.hoa_text.specs.Grammar.{number_of, next}
 use Rattle.hoa_text.specs.Offsets.{inside, left_over, left_blank}
-use Rattle.hoa_text.specs.Numbers.{value_next, leads_zero, one_digit, digit_from}
+use Rattle.hoa_text.proofs.Values.{value_next}
+use Rattle.hoa_text.specs.Numbers.{leads_zero, one_digit, digit_from}
 use Rattle.hoa_text.specs.RunOffsets.{Run, word_from, left_number, left_word, left_item, left_alias, left_at}
 use Rattle.hoa_text.specs.QuotedOffsets.{InQuotes, quotes_carried, quotes_more, left_quoted, left_unquoted}
 use Rattle.hoa_text.specs.SignOffsets.{left_mark, left_body, left_end, left_abort, left_dash, opens_sign, OpensNone, left_none}

@@ -4,12 +4,13 @@ use Rattle.std.proofs.Common.{sym, ap, ap₂, ◌∙◌, append-nil, zero-mul, m
 use Prim.Native.String.{String}
 use Rattle.std.proofs.Math.Nat.{mod-one}
 use Rattle.meaning.specs.BitSet.{has, digit}
-use Rattle.meaning.specs.BitSetLaws.{low, has_below}
+use Rattle.meaning.specs.BitSetLaws.{low}
+use Rattle.meaning.proofs.FullSets.{has_below}
 use Rattle.meaning.specs.Counting.{each}
 use Rattle.meaning.specs.CountingLaws.{each_length}
 use Rattle.automaton.specs.Bytes.{bytes}
 use Rattle.hoa_text.specs.Written.{decimal, separated, inf_of, condition_of, literal_of, label_of, members, fin_of, set_text, marks_text, accepted}
-use Rattle.hoa_text.specs.WrittenFormulas.{separated_more}
+use Rattle.hoa_text.proofs.WrittenFormulas.{separated_more}
 
 abbrev pub byte_if : Bool → ℕ → List ℕ
 byte_if test b = cond test (b ∷ []) []

@@ -1,12 +1,10 @@
 -- Laws of sets of marks: the set of a test has what passes, and every set below 2 ^ k is the set of its own bits.
-use Rattle.std.specs.Prelude.{◌≡◌, refl, Bool, true, false, ℕ, zero, suc, ◌+◌, ◌-◌, ◌*◌, ◌/◌, ◌%◌, ◌^◌, ◌<◌, eqb}
-use Rattle.std.proofs.Common.{sym, ap, ap₂, ◌∙◌, div-add-mod', not-suc-le-zero, le_of_suc-le-suc, div-one, mod-eq_of_lt, arith, eq-eqb, eqb-true}
+use Rattle.std.specs.Prelude.{◌≡◌, refl, Bool, true, false, ℕ, zero, suc, ◌+◌, ◌*◌, ◌/◌, ◌%◌, ◌^◌, ◌<◌}
+use Rattle.std.proofs.Common.{sym, ap, ap₂, ◌∙◌, div-add-mod', not-suc-le-zero, le_of_suc-le-suc, div-one, arith}
 use Rattle.std.proofs.Math.Nat.{two-pow-succ, div-div-eq-div-mul}
 use Rattle.std.proofs.Math.Arith.{digits_div, digits_mod, lt-one}
 use Rattle.meaning.specs.BitSet.{digit, bit, has, set_of}
-use Rattle.meaning.specs.BitSetLaws.{digit_bit, full_mod, mod_full}
-use Rattle.meaning.specs.Tests.{all}
-use Rattle.meaning.specs.TestLaws.{same_truth}
+use Rattle.meaning.specs.BitSetLaws.{digit_bit}
 
 bit_lt : (b : Bool) → bit b < 2
 bit_lt true = omega arith
@@ -52,7 +50,3 @@ set_of_has (suc k) K h =
     ap₂ (λ (x y : ℕ). x * 2 + y)
     (set_of_same k (λ i. has K (suc i)) (has (K / 2)) (λ i l. has_half K i) ∙ set_of_has k (K / 2) (omega arith))
     (ap bit (has_low K) ∙ bit_digit (K % 2) (omega arith)) ∙ div-add-mod' K 2
-
--- "K is all k", as one test of the number
-pub all_has : (k K : ℕ) → K < 2 ^ k → all k (has K) ≡ eqb K (2 ^ k - 1)
-all_has k K h = same_truth _ _ (λ e. eq-eqb _ _ (sym (mod-eq_of_lt h) ∙ full_mod K k e)) (λ e. mod_full K k (mod-eq_of_lt h ∙ eqb-true _ _ e))

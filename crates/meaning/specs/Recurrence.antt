@@ -2,8 +2,8 @@
 use Rattle.std.specs.Prelude.{◌≡◌, refl, ◌⊎◌, ◌↔◌, Bool, true, false, ◌&&◌, ℕ, zero, suc, ◌≤◌, ◌<◌, max}
 use Rattle.std.proofs.Common.{sym, ap₂, ◌∙◌, subst, inl, inr, true≢false, not-suc-le-zero, arith}
 use Rattle.std.proofs.Math.Decide.{ℕ_discrete}
-use Rattle.meaning.specs.TestLaws.{and_true, and_left, and_right, any_at, any_find, all_at, all_of, truth, same_truth}
-use Rattle.meaning.specs.Automata.{Aut, WellFormed, EverySet, Word, Inf, Accepts, Takes, state, union, MetInfinitelyOften, MetFinitelyOften}
+use Rattle.meaning.specs.TestLaws.{and_true, and_left, and_right, any_at, any_find, truth, same_truth}
+use Rattle.meaning.specs.Automata.{Aut, WellFormed, Word, Inf, Accepts, Takes, state, union, MetInfinitelyOften, MetFinitelyOften}
 use Rattle.meaning.specs.Run.{state_lt}
 
 -- S is the set of the sets that the run on w meets infinitely often
@@ -81,11 +81,3 @@ module _ {A : Aut} (F : WellFormed A) (w : Word) (letters : (i : ℕ) → w i < 
     where
       same : (J : Inf A w) → A.accept (union A J.often) ≡ A.accept S
       same J = F.sets_owned (union A J.often) S (recurrent_same A w (union_recurrent J) R)
-
-  -- "A run is accepting if every set is met infinitely often; with 0 sets all runs are."
-  pub every_set : EverySet A → Inf A w → Accepts A w ↔ ((i : ℕ) → i < A.sets → MetInfinitelyOften A w i)
-  unfolding EverySet
-  every_set every I = (
-    λ a i h. (in_union a.inf i h).0 (all_at A.sets (union A a.inf.often) (sym (every (union A a.inf.often)) ∙ a.accepted) i h),
-    λ met. record { inf = I; accepted = every (union A I.often) ∙ all_of A.sets (union A I.often) (λ i h. (in_union I i h).1 (met i h)) },
-  )

@@ -77,19 +77,12 @@ all_at (suc n) p h l k = go (ℕ_discrete l n) (λ m. all_at n p (and_right (p n
     go (yes q) ih = ap p q ∙ and_left (p n) (all n p) h
     go (no q) ih = ih (omega arith)
 
-pub all_of : (n : ℕ) (p : ℕ → Bool) → ((l : ℕ) → l < n → p l ≡ true) → all n p ≡ true
-all_of zero p h = refl
-all_of (suc n) p h = and_true (h n (omega arith)) (all_of n p (λ l k. h l (omega arith)))
-
 pub all_off : (n : ℕ) (p : ℕ → Bool) (l : ℕ) → l < n → p l ≡ false → all n p ≡ false
 all_off n p l h e = go (all n p) refl
   where
     go : (b : Bool) → all n p ≡ b → b ≡ false
     go true a = absurd (true≢false (sym (all_at n p a l h) ∙ e))
     go false a = refl
-
-pub all_same : (n : ℕ) (p q : ℕ → Bool) → ((l : ℕ) → l < n → p l ≡ q l) → all n p ≡ all n q
-all_same n p q h = same_truth (all n p) (all n q) (λ a. all_of n q (λ l k. sym (h l k) ∙ all_at n p a l k)) (λ a. all_of n p (λ l k. h l k ∙ all_at n q a l k))
 
 pub any_same : (n : ℕ) (p q : ℕ → Bool) → ((l : ℕ) → l < n → p l ≡ q l) → any n p ≡ any n q
 any_same zero p q h = refl

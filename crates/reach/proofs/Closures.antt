@@ -15,7 +15,7 @@ use Rattle.meaning.specs.BitSet.{has}
 use Rattle.meaning.specs.Walk.{run}
 use Rattle.meaning.specs.TestLaws.{or_left, or_right, or_cases, and_true, and_left, and_right, same_truth}
 use Rattle.meaning.specs.Components.{Leads, reaches}
-use Rattle.meaning.specs.ComponentLaws.{leads_then, reaches_exact}
+use Rattle.meaning.proofs.ComponentLaws.{leads_then, reaches_exact}
 use Rattle.bits.specs.Sets.{single}
 use Rattle.reach.specs.Closing.{in_row, Closed, Reached, Through}
 use Rattle.reach.proofs.Stores.{Grown, has_alone, kept, added, gained}

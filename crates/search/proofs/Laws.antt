@@ -1,10 +1,10 @@
 -- What the tests say, and what the comparison's answer makes of a found table.
-use mathlib.Core.Path.{◌≡◌, refl, ap, ◌∙◌}
+use mathlib.Core.Path.{◌≡◌, ap, ◌∙◌}
 use mathlib.Core.List.{List}
 use Prim.Native.Nat.{ℕ}
 use native.Mathlib.Decide.{ℕ_discrete}
 use Rattle.meaning.specs.Agreement.{Agree}
-use Rattle.meaning.specs.Decision.{decide_agree}
+use Rattle.meaning.proofs.Decided.{decide_agree}
 use Rattle.automaton.specs.declared.Automaton.{Automaton}
 use Rattle.automaton.specs.View.{view}
 use Rattle.automaton.specs.ViewLaws.{view_comparable}

@@ -1,6 +1,5 @@
 -- `entry` meets its contract.
 use mathlib.Core.Path.{refl}
-use borrow.Author.Rules.{rules}
 use native.Mathlib.Omega.{arith}
 use Rattle.clause_indices.proofs.entry.Goals as goal
 

@@ -1,6 +1,5 @@
 -- `counting` meets its contract.
 use Rattle.clause_sizes.proofs.Tested.{counting_test}
-use borrow.Author.Rules.{rules}
 use Rattle.clause_sizes.proofs.counting.Goals as goal
 
 pub returns : goal.returns

@@ -1,14 +1,7 @@
 -- `fitting` meets its contract.
 use mathlib.Core.Bool.{false≢true}
-use Prim.Native.Nat.{◌≤◌}
-use native.Mathlib.Nat.{mul-le-mul}
-use borrow.Author.Tests.{not-true, not-false}
-use Rattle.clause_sizes.specs.declared.Sizes.{Sizes}
-use Rattle.clause_sizes.specs.Sizes.{Counting}
-use Rattle.clause_sizes.specs.Limits.{square_le}
 use Rattle.clause_sizes.specs.Conjunctions.{false_not}
-use Rattle.clause_sizes.proofs.Tested.{fitting_candidate, fitting_reference, letters_test, fitting_test}
-use borrow.Author.Rules.{rules}
+use Rattle.clause_sizes.proofs.Tested.{fitting_candidate, fitting_reference, letters_test}
 use native.Mathlib.Omega.{arith}
 use Rattle.clause_sizes.proofs.fitting.Goals as goal
 

@@ -1,6 +1,5 @@
 -- `kept_sets` meets its contract.
 use mathlib.Core.Path.{◌∙◌}
-use borrow.Author.Rules.{rules}
 use Rattle.clause_sizes.proofs.KeptSets.{first_sets, second_sets}
 use Rattle.clause_sizes.proofs.kept_sets.Goals as goal
 

@@ -1,10 +1,8 @@
 -- `last_variable` meets its contract.
 use mathlib.Core.Path.{refl}
-use borrow.Author.Tests.{not-true, not-false}
 use Rattle.clause_sizes.specs.Sizes.{Fitting}
-use Rattle.clause_sizes.specs.Limits.{marks_le, squares_le, pairs_cap, markings_le, paths_le, last_variable_is}
+use Rattle.clause_sizes.specs.Limits.{marks_le, paths_le, last_variable_is}
 use Rattle.clause_sizes.specs.Conjunctions.{false_not}
-use borrow.Author.Rules.{rules}
 use native.Mathlib.Omega.{arith}
 use Rattle.clause_sizes.proofs.last_variable.Goals as goal
 

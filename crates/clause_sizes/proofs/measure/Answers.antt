@@ -1,13 +1,11 @@
 -- `measure` meets its contract.
-use mathlib.Core.Path.{◌≡◌, refl, sym, ap, ◌∙◌}
-use borrow.Author.Tests.{not-true, not-false}
+use mathlib.Core.Path.{sym, ◌∙◌}
 use Rattle.automaton.specs.Value.{Valid}
 use Rattle.acceptance.specs.Laws.{own_means}
 use Rattle.clause_sizes.specs.Sizes.{outside, dimensions, past_sets}
 use Rattle.clause_sizes.specs.Targets.{Dimensioned, Proper}
 use Rattle.clause_sizes.specs.Conjunctions.{false_not}
 use Rattle.clause_sizes.proofs.Laws.{turned_down, fits_so}
-use borrow.Author.Rules.{rules}
 use Rattle.clause_sizes.proofs.measure.Goals as goal
 
 pub returns-then-not-valid : goal.returns-then-not-valid

@@ -2,7 +2,6 @@
 use native.Mathlib.Nat.{mul-le-mul}
 use Rattle.clause_sizes.specs.Limits.{square_le}
 use Rattle.clause_sizes.proofs.Laws.{measured_is}
-use borrow.Author.Rules.{rules}
 use native.Mathlib.Omega.{arith}
 use Rattle.clause_sizes.proofs.measured.Goals as goal
 

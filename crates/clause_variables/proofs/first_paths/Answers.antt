@@ -1,6 +1,5 @@
 -- `first_paths` meets its contract.
 use Rattle.clause_variables.proofs.FirstLaws.{row_numbers}
-use borrow.Author.Rules.{rules}
 use Rattle.clause_variables.proofs.first_paths.Goals as goal
 
 pub returns : goal.returns

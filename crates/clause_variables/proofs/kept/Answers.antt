@@ -1,7 +1,6 @@
 -- `kept` meets its contract.
 use mathlib.Core.Path.{refl, ap, ◌∙◌}
 use native.Mathlib.Omega.{arith}
-use borrow.Author.Rules.{rules}
 use Rattle.meaning.specs.BitSet.{has}
 use Rattle.clause_variables.proofs.kept.Goals as goal
 

@@ -1,13 +1,10 @@
 -- `path_variable` meets its contract.
-use mathlib.Core.Bool.{true}
-use borrow.Author.Tests.{not-true, not-false}
 use native.Mathlib.Omega.{arith}
 use Rattle.encoding.specs.Variables.{path}
 use Rattle.clause_sizes.specs.Sizes.{Fitting}
 use Rattle.clause_sizes.specs.Numbers.{InFile}
 use Rattle.clause_sizes.specs.Conjunctions.{false_not}
 use Rattle.clause_variables.proofs.Tested.{InRanges, no_variable, a_variable, ranges_test, path_test, path_ranges}
-use borrow.Author.Rules.{rules}
 use Rattle.clause_variables.proofs.path_variable.Goals as goal
 
 pub returns-then-not-fitting : goal.returns-then-not-fitting

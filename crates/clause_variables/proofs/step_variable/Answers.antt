@@ -1,8 +1,6 @@
 -- `step_variable` meets its contract.
-use borrow.Author.Tests.{not-true, not-false}
 use Rattle.clause_sizes.specs.Conjunctions.{false_not}
 use Rattle.clause_variables.proofs.Tested.{no_variable, a_variable, step_test}
-use borrow.Author.Rules.{rules}
 use Rattle.clause_variables.proofs.step_variable.Goals as goal
 
 pub returns-then-not-fitting : goal.returns-then-not-fitting

@@ -1,8 +1,7 @@
 -- `explain` meets its contract.
-use mathlib.Core.Path.{sym, ap, ◌∙◌}
+use mathlib.Core.Path.{ap, ◌∙◌}
 use lib.ListN.{length}
-use Rattle.decimal.specs.Writing.{wrote_length, wrote_front}
-use borrow.Author.Rules.{rules}
+use Rattle.decimal.specs.Writing.{wrote_front}
 use Rattle.console_lines.proofs.explain.Goals as goal
 
 pub returns : goal.returns

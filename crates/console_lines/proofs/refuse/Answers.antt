@@ -2,7 +2,6 @@
 use mathlib.Core.Path.{ap, ◌∙◌}
 use lib.ListN.{length}
 use Rattle.decimal.specs.Writing.{wrote_front}
-use borrow.Author.Rules.{rules}
 use Rattle.console_lines.proofs.refuse.Goals as goal
 
 pub returns : goal.returns

@@ -35,3 +35,5 @@ overflow_add-start c =
 pub returns-in-Body : goal.returns-in-Body
 returns-in-Body c = body_opens _ _ _ _ c.loop-start.invariant _ (subst (Reads _ _) c.in-Body.is c.next_token.ensures) c.opening.result c.opening.ensures
 
+pub returns-in_default : goal.returns-in_default
+returns-in_default c = no_item _ _ _ _ c.loop-start.invariant _ _ c.next_token.ensures c.in_default.not-Item c.in_default.not-Body c.offset.ensures c.refused-in_default.result c.refused-in_default.ensures

@@ -1,7 +1,5 @@
 -- `extent_of` meets its contract.
 use mathlib.Core.Path.{refl}
-use borrow.Author.Rules.{rules}
-use borrow.Author.Tests.{not-true, not-false}
 use Rattle.clause_sizes.specs.Conjunctions.{false_not}
 use Rattle.clause_indices.proofs.extent.extent_of.Goals as goal
 

@@ -1,11 +1,7 @@
 -- `marks` meets its contract. The invariant: the marks of the first i sets stand after the first two places.
 use Prim.Native.Nat.{◌+◌, ◌-◌, ◌≤◌}
-use mathlib.Core.Path.{◌≡◌, ◌∙◌, subst}
 use Rattle.decimal.specs.Wrote.{Wrote}
-use Rattle.decimal.specs.Writing.{wrote_length}
 use Rattle.clause_indices.specs.Indices.{marks_of}
-use Rattle.clause_indices.specs.Literals.{stored, wrote_each_none, wrote_each_more}
-use native.Mathlib.Omega.{arith}
 use Rattle.clause_indices.proofs.premise.marks.Given as goal
 
 abbrev pub invariant-loop-i : goal.invariant-loop-i

@@ -1,6 +1,4 @@
 -- `premise` meets its contract.
-use borrow.Author.Rules.{rules}
-use borrow.Author.Tests.{not-true, not-false}
 use native.Mathlib.Omega.{arith}
 use Rattle.clause_sizes.specs.Conjunctions.{false_not}
 use Rattle.clause_sizes.specs.Sizes.{Fitting}

@@ -1,7 +1,6 @@
 -- `Target::every` meets its contract.
 use mathlib.Core.Path.{ap}
 use Prim.Native.Nat.{ℕ}
-use borrow.Author.Rules.{rules}
 use Rattle.clause_sizes.specs.declared.Listing.TheVariants.{First}
 use Rattle.clause_sizes.proofs.Target.every.Goals as goal
 

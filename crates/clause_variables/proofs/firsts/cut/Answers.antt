@@ -1,5 +1,4 @@
 -- `firsts::cut` meets its contract.
-use borrow.Author.Rules.{rules}
 use Rattle.bits.specs.Members.{shift_some}
 use Rattle.clause_variables.proofs.FirstLaws.{cut_low, cut_none}
 use Rattle.clause_variables.proofs.firsts.cut.Goals as goal

@@ -1,9 +1,8 @@
 -- `firsts::fill` meets its contract.
 use mathlib.Core.Path.{sym, ◌∙◌}
-use Prim.Native.Nat.{◌-◌}
 use native.Mathlib.Omega.{arith}
 use Rattle.meaning.specs.CountingLaws.{filled_all}
-use Rattle.clause_variables.proofs.FirstLaws.{Counted, counted_none, counted_more, at_most_all}
+use Rattle.clause_variables.proofs.FirstLaws.{counted_none, counted_more, at_most_all}
 use Rattle.clause_variables.proofs.firsts.fill.Goals as goal
 
 pub loop-v-init : goal.loop-v-init

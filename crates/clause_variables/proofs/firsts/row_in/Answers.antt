@@ -1,6 +1,5 @@
 -- `firsts::row_in` meets its contract: each digit keeps the number below the product of the bounds.
 use Prim.Native.Nat.{◌+◌, ◌≤◌}
-use borrow.Author.Rules.{rules}
 use native.Mathlib.Omega.{arith}
 use Rattle.clause_sizes.specs.Limits.{marks_le, markings_le}
 use Rattle.clause_sizes.specs.Numbers.{before, in_row}

@@ -1,7 +1,6 @@
 -- `path_number` meets its contract: each digit keeps the number below the product of the bounds.
 use mathlib.Core.Path.{◌≡◌, refl}
 use native.Mathlib.Omega.{arith}
-use borrow.Author.Rules.{rules}
 use Rattle.clause_sizes.specs.Limits.{marks_le}
 use Rattle.clause_sizes.specs.Numbers.{rank_in}
 use Rattle.clause_variables.proofs.Laws.{PathBounds, path_lt, path_is, rank_of}

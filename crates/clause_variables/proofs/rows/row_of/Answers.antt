@@ -1,6 +1,5 @@
 -- `rows::row_of` meets its contract.
 use mathlib.Core.Path.{ap, ◌∙◌}
-use borrow.Author.Rules.{rules}
 use Rattle.meaning.specs.BitSet.{has}
 use Rattle.meaning.specs.Counting.{how_many}
 use Rattle.clause_variables.proofs.rows.row_of.Goals as goal

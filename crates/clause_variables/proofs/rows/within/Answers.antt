@@ -1,6 +1,4 @@
 -- `rows::within` meets its contract.
-use native.Mathlib.Omega.{arith}
-use borrow.Author.Rules.{rules}
 use Rattle.clause_variables.proofs.Tested.{sum_test}
 use Rattle.clause_variables.proofs.rows.within.Goals as goal
 

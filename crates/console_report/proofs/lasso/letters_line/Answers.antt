@@ -3,7 +3,6 @@ use native.Mathlib.Omega.{arith}
 use lib.ListN.{take}
 use Rattle.decimal.specs.Writing.{wrote_then}
 use Rattle.console_report.proofs.Spacing.{wrote_row}
-use borrow.Author.Rules.{rules}
 use Rattle.console_report.proofs.lasso.letters_line.Goals as goal
 
 pub numbers-next-requires : goal.numbers-next-requires

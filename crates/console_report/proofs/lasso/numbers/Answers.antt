@@ -1,11 +1,8 @@
 -- `lasso::numbers` meets its contract.
 use Rattle.decimal.specs.Digits.{decimal_at_most}
-use Prim.Native.Nat.{◌≤◌, ◌-◌}
-use lib.ListN.{length}
 use native.Mathlib.Omega.{arith}
-use borrow.Author.Rules.{rules}
 use Rattle.decimal.specs.Writing.{wrote_length}
-use Rattle.console_report.proofs.Spacing.{Spaced, none_yet, one_more, stopped, ended}
+use Rattle.console_report.proofs.Spacing.{none_yet, one_more, stopped, ended}
 use Rattle.console_report.proofs.lasso.numbers.Goals as goal
 
 pub loop-i-init : goal.loop-i-init

@@ -1,6 +1,5 @@
 -- `lasso::word_lines` meets its contract.
 use Rattle.decimal.specs.Writing.{wrote_then}
-use borrow.Author.Rules.{rules}
 use Rattle.console_report.proofs.lasso.word_lines.Goals as goal
 
 pub returns : goal.returns

@@ -3,7 +3,6 @@ use native.Mathlib.Omega.{arith}
 use Rattle.decimal.specs.Digits.{decimal_at_most_20}
 use lib.ListN.{length-append}
 use Rattle.decimal.specs.Writing.{roomy_then}
-use borrow.Author.Rules.{rules}
 use Rattle.console_report.proofs.lines.pair.Goals as goal
 
 pub spaced-at-requires : goal.spaced-at-requires

@@ -1,7 +1,6 @@
 -- `parts::spaced` meets its contract.
 use native.Mathlib.Omega.{arith}
 use Rattle.decimal.specs.Writing.{roomy_then}
-use borrow.Author.Rules.{rules}
 use Rattle.console_report.proofs.parts.spaced.Goals as goal
 
 pub returns : goal.returns

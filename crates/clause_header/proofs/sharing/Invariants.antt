@@ -1,0 +1,15 @@
+-- `sharing` meets its contract. The invariant: the count over the first y of all u, v and l.
+use mathlib.Core.Path.{◌≡◌, ap, ◌∙◌}
+use Prim.Native.Nat.{◌*◌, ◌/◌, ◌%◌, ◌-◌, ◌≤◌}
+use Rattle.meaning.specs.Counting.{total}
+use Rattle.clause_header.specs.SharingCount.{shares_by}
+use Rattle.clause_header.proofs.Counting.{squares_le, triples_le, triple_place, total_none, total_more}
+use native.Mathlib.Omega.{arith}
+use Rattle.clause_header.proofs.sharing.Given as goal
+
+abbrev pub invariant-loop-y : goal.invariant-loop-y
+invariant-loop-y l =
+    (l.y ≤ l.all) × (l.count ≡ total l.y (λ k. shares_by l.z l.destinations (k / l.z.letters / l.states) (k / l.z.letters % l.states) (k % l.z.letters))) × (l.count ≤ l.y)
+
+abbrev pub decreases-loop-y : goal.decreases-loop-y
+decreases-loop-y l = l.all - l.y

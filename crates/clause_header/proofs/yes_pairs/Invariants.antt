@@ -1,0 +1,14 @@
+-- `yes_pairs` meets its contract. The invariant: the sum over the first x pairs.
+use mathlib.Core.Path.{◌≡◌}
+use Prim.Native.Nat.{◌-◌, ◌≤◌}
+use native.Mathlib.Omega.{arith}
+use borrow.Author.Rules.{rules}
+use Rattle.meaning.specs.Counting.{total}
+use Rattle.clause_header.proofs.Counting.{pairs_le, own_some, yes_at, in_a_row, total_none, total_more}
+use Rattle.clause_header.proofs.yes_pairs.Given as goal
+
+abbrev pub invariant-loop-x : goal.invariant-loop-x
+invariant-loop-x l = (l.x ≤ l.pairs) × (l.count ≡ total l.x (yes_at l.z)) × (l.count ≤ l.x)
+
+abbrev pub decreases-loop-x : goal.decreases-loop-x
+decreases-loop-x l = l.pairs - l.x

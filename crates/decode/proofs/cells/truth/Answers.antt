@@ -1,0 +1,10 @@
+-- `cells::truth` meets its contract.
+use native.Mathlib.Omega.{arith}
+use borrow.Author.Tests.{eq-eqb, ne_eqb}
+use Rattle.decode.proofs.cells.truth.Goals as goal
+
+pub returns-then-entry-eq1 : goal.returns-then-entry-eq1
+returns-then-entry-eq1 c = (rw (eq-eqb _ _ c.if-entry-eq1.true), omega arith)
+
+pub returns-else-entry-eq1 : goal.returns-else-entry-eq1
+returns-else-entry-eq1 c = (rw (ne_eqb _ _ c.if-entry-eq1.false), omega arith)

@@ -1,0 +1,15 @@
+pub mod Values
+pub mod ListedFirst
+pub mod WrittenTokens
+pub mod WrittenFormulas
+pub mod WrittenLabels
+pub mod WrittenMarks
+pub mod WrittenBody
+pub mod WrittenAcceptance
+pub mod WrittenHeader
+pub mod ConditionLength
+pub mod WrittenLength
+pub mod ReadBack
+pub mod Examples
+pub mod BodyExamples
+pub mod FormulaExamples

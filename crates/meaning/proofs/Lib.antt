@@ -1,0 +1,16 @@
+pub mod AllLaws
+pub mod EverySet
+pub mod FullSets
+pub mod ClosedLoopLaws
+pub mod ComponentLaws
+pub mod ReachableLaws
+pub mod CycleLemma
+pub mod HomomorphismLaws
+pub mod ShortDifference
+pub mod WordOrder
+pub mod WordSearch
+pub mod Decided
+pub mod FirstWordLaws
+pub mod FirstWordExists
+pub mod FirstWordExamples
+pub mod AllWords
