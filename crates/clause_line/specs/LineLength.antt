@@ -15,8 +15,10 @@ use Rattle.encoding.specs.Variables.{Task, Var}
 use Rattle.encoding.specs.Clauses.{not_marks, totality, initial, successor, extension, closure}
 use Rattle.encoding.specs.Loops.{each_length}
 use Rattle.encoding.specs.Membership.{Listed, a_totality, the_initial, a_successor, an_extension, a_closure, listed}
-use Rattle.encoding.specs.Literals.{IsLiteral, literals}
-use Rattle.encoding.specs.NamedFile.{named_numbering, named_well_posed}
+use Rattle.encoding.specs.Literals.{IsLiteral}
+use Rattle.encoding.proofs.LiteralLaws.{literals}
+use Rattle.encoding.specs.NamedFile.{named_numbering}
+use Rattle.encoding.proofs.NamedTheorem.{named_well_posed}
 use Rattle.encoding.specs.Named.{task_for, number_for, variables_for, file_for, Named}
 use Rattle.decimal.specs.Digits.{decimal_at_most}
 use Rattle.clause_sizes.specs.declared.Target.{Target}

@@ -12,7 +12,7 @@ use Rattle.encoding.specs.Loops.{each_same, each_add, each_in, each_elim}
 use Rattle.encoding.specs.Positions.{positions, at_position}
 use Rattle.encoding.specs.ByPosition.{by_position, at_most_one}
 use Rattle.encoding.specs.WellPosed.{WellPosed}
-use Rattle.encoding.specs.SameNumbers.{same_position}
+use Rattle.encoding.proofs.SameNumbers.{same_position}
 use Rattle.clause_list.specs.Next.{Found, handed, ended, here_or, search_from, next_clause, clauses_from}
 
 module _ (T : Task) (num : Var → ℕ) where

@@ -8,7 +8,7 @@ use Rattle.automaton.specs.View.{view}
 use Rattle.automaton.specs.ViewLaws.{view_formed}
 use Rattle.encoding.specs.Variables.{Var, Present}
 use Rattle.encoding.specs.Named.{Listing, first, second, kept_by, task_for, number_for, variables_for}
-use Rattle.encoding.specs.NamedFile.{named_well_posed}
+use Rattle.encoding.proofs.NamedTheorem.{named_well_posed}
 use Rattle.encoding.specs.WellPosed.{WellPosed}
 use Rattle.clause_sizes.specs.declared.Target.{Target}
 use Rattle.clause_sizes.specs.declared.Sizes.{Sizes}

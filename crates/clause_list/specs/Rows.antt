@@ -6,7 +6,7 @@ use Rattle.meaning.specs.BitSet.{has}
 use Rattle.meaning.specs.MarkSets.{set_of_same}
 use Rattle.encoding.specs.Variables.{Var, path, Present}
 use Rattle.encoding.specs.Named.{number_for, variables_for}
-use Rattle.encoding.specs.NamedFile.{named_well_posed}
+use Rattle.encoding.proofs.NamedTheorem.{named_well_posed}
 use Rattle.encoding.specs.WellPosed.{WellPosed, node_present}
 use Rattle.clause_sizes.specs.declared.Sizes.{Sizes}
 use Rattle.clause_sizes.specs.Sizes.{target_of}

@@ -12,7 +12,10 @@ use Rattle.decimal.specs.Decimal.{decimal}
 use Rattle.clause_sizes.specs.declared.Target.{Target}
 use Rattle.clause_sizes.specs.Limits.{every_proper}
 use Rattle.clause_sizes.specs.Targets.{every, Proper, last, file}
-use Rattle.clause_sizes.specs.Sizes.{outside, dimensions, past_sets}
+use Rattle.clause_sizes.specs.Sizes.{Refuses, outside, dimensions, past_sets}
+use Rattle.refusals.specs.declared.Refusal.{Refusal}
+use Rattle.refusals.specs.declared.Code.{Code}
+use Rattle.std.proofs.Math.Option.{Option}
 use Rattle.clause_header.specs.declared.Totals.{Totals}
 use Rattle.clause_header.specs.declared.Totals.TheVariants.{Of, Refused}
 use Rattle.clause_header.specs.Header.{Headed}
@@ -34,11 +37,14 @@ module _ {a : Automaton} {τ : Target} (v : Valid a) (d : Proper τ) where
   abbrev counted : List ℕ
   counted = header_line (last a τ) (length (file a τ))
 
+  not_refused : {f : Refusal} {c : Option Code} → Refuses a τ f c → ⊥
+  not_refused (outside w) = w v
+  not_refused (dimensions w e) = e d.dimensioned
+  not_refused (past_sets w e o) = o d.sets_owned
+
   totals_text : (t : Totals) → Headed a τ t → header_text t ≡ counted
   totals_text (Of variables clauses) (w, e, (p, q)) = ap₂ header_line p q
-  totals_text (Refused f) (outside w) = absurd (w v)
-  totals_text (Refused f) (dimensions w e) = absurd (e d.dimensioned)
-  totals_text (Refused f) (past_sets w e o) = absurd (o d.sets_owned)
+  totals_text (Refused f) h = absurd (not_refused h)
 
   prints : {text : List ℕ} → counted ++ lines_text (file a τ) ≡ text → Prints a τ text
   prints e = record {

@@ -5,7 +5,7 @@
 -- 3 to 5 a list of one impossible clause and the same list for every reference.
 use Rattle.std.specs.Prelude.{◌≡◌, refl, ◌↔◌, List, ℕ, ◌+◌, ◌*◌, ◌^◌, ◌≤◌, ◌<◌, length}
 use Rattle.std.proofs.Common.{sym, ap, ap₂, subst, arith}
-use Rattle.std.proofs.Math.Option.{none, some}
+use Rattle.std.proofs.Math.Option.{Option, none, some}
 use Rattle.automaton.specs.declared.Automaton.{Automaton}
 use Rattle.refusals.specs.declared.Refusal.TheVariants.{Short}
 use Rattle.refusals.specs.Refused.{row}
@@ -22,6 +22,9 @@ use Rattle.clause_sizes.specs.declared.Listing.TheVariants.{First}
 use Rattle.clause_sizes.specs.declared.Target.{Target}
 use Rattle.clause_sizes.specs.Targets.{which, listed, Proper, task, numbers, last, kept, file, named}
 use Rattle.clause_sizes.specs.Sizes as sizes
+use Rattle.refusals.specs.declared.Refusal.{Refusal}
+use Rattle.refusals.specs.declared.Code.{Code}
+
 use Rattle.clause_header.specs.declared.Totals.{Totals}
 use Rattle.clause_header.specs.declared.Totals.TheVariants.{Of, Refused as NoTotals}
 use Rattle.clause_header.specs.Header.{Headed}
@@ -106,11 +109,14 @@ pub record Demand3 (reference : Automaton) (τ : Target) : Type 0 where
 -- ---- the proof
 
 module _ {reference : Automaton} {τ : Target} (v : Valid reference) (d : Proper τ) where
+  not_refused : {f : Refusal} {c : Option Code} → sizes.Refuses reference τ f c → ⊥
+  not_refused (sizes.outside w) = w v
+  not_refused (sizes.dimensions w i) = i d.dimensioned
+  not_refused (sizes.past_sets w i o) = o d.sets_owned
+
   header_is : (r : Totals) → Headed reference τ r → r ≡ Of (last reference τ) (length (file reference τ))
   header_is (Of variables clauses) (w, i, (e, f)) = ap₂ Of e f
-  header_is (NoTotals f) (sizes.outside w) = absurd (w v)
-  header_is (NoTotals f) (sizes.dimensions w i) = absurd (i d.dimensioned)
-  header_is (NoTotals f) (sizes.past_sets w i o) = absurd (o d.sets_owned)
+  header_is (NoTotals f) h = absurd (not_refused h)
 
   delivered : (ν : Assignment) → Satisfies ν (file reference τ) → (pieces : List (List ℕ)) → States (last reference τ) (kept reference τ) (joined pieces) ν
       → (r : Reader) → Held reference τ pieces r → (prefix prefix-after loop loop-after : List ℕ) (answer : Decoded)

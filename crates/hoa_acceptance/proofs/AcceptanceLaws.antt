@@ -1,29 +1,24 @@
 -- Laws of what stands behind `Acceptance:`: the number of sets, the formula, and its members among their sets of marks.
 use mathlib.Core.Path.{◌≡◌, refl, sym, ap, ◌∙◌}
 use mathlib.Core.Bool.{◌&&◌, and-true}
-use mathlib.Core.List.{List, [], ◌∷◌}
+use mathlib.Core.List.{List}
 use Prim.Native.Nat.{ℕ, ◌-◌, ◌^◌, ◌≤◌, ◌<◌, min}
 use native.Mathlib.Omega.{arith}
 use borrow.Author.Tests.{le-leb, lt-leb}
 use lib.Bits.{bit_and, mask_lt}
-use denote.Enum.Declared.{tag_of, declared}
-use types.Run.{OneOf}
 use Rattle.meaning.specs.BitSet.{has, set_of}
 use Rattle.meaning.specs.BitSetLaws.{has_and, has_same}
 use Rattle.meaning.proofs.FullSets.{has_below}
 use Rattle.meaning.specs.MarkSets.{set_of_lt, set_of_same, has_set_of}
 use Rattle.bits.specs.Powers.{power_is, power_le}
 use Rattle.refusals.specs.declared.Refusal.{Refusal}
-use Rattle.refusals.specs.declared.Refusal.TheVariants.{Form, Size}
-use Rattle.hoa_text.specs.Grammar.{at, gives, refuses, then}
+use Rattle.refusals.specs.declared.Refusal.TheVariants.{Size}
+use Rattle.hoa_text.specs.Grammar.{gives, refuses, then}
 use Rattle.hoa_text.specs.Formulas.{Formula, holds, acceptance_formula}
-use Rattle.hoa_text.specs.Header.{acceptance_of, sets_read, sets_given, sets_item, with_acceptance}
+use Rattle.hoa_text.specs.Header.{acceptance_of, sets_read, sets_item, with_acceptance}
 use Rattle.hoa_text.specs.Tokens.{left}
-use Rattle.hoa_tokens.specs.declared.Token.{Token}
 use Rattle.hoa_tokens.specs.declared.Token.TheVariants.{Number}
 use Rattle.hoa_tokens.specs.Answers.{Reads}
-use Rattle.hoa_tokens.specs.contracts.Token.{enum}
-use Rattle.hoa_tokens.proofs.Due.{number_missing, number_due}
 use Rattle.hoa_formulas.specs.Answers.{Satisfy, Read}
 use Rattle.hoa_acceptance.specs.declared.SetsRead.{SetsRead}
 use Rattle.hoa_acceptance.specs.declared.SetsRead.TheVariants.{Sets, Refused}
@@ -57,10 +52,6 @@ module _ (s : List ℕ) (i m : ℕ) where
 -- ---- what stands behind `Acceptance:`
 
 module _ (s : List ℕ) (i : ℕ) where
-  pub sets_missing : (o : ℕ) (t : Token) → Reads s i t → OneOf (0 ∷ 1 ∷ 3 ∷ 4 ∷ 5 ∷ 6 ∷ 7 ∷ 8 ∷ 9 ∷ 10 ∷ []) (tag_of (declared enum) t) → o ≡ at (left s i)
-      → ReadsSets s i (Refused (Form o))
-  sets_missing o t h g e k = ap (λ x. then x (sets_given k (at (left s i)))) (number_due (left s i) o (number_missing s i t h g) e)
-
   module _ (o m e : ℕ) (h : Reads s i (Number o m e)) where
     pub sets_over : 4 < m → ReadsSets s i (Refused (Size o))
     sets_over l g = ap (sets_item g) h.is ∙ rw (lt-leb m 4 l)

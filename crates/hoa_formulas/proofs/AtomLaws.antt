@@ -7,12 +7,10 @@ use mathlib.Core.Option.{Option, none, some}
 use Prim.Native.Nat.{ℕ, ◌≤◌, ◌<◌}
 use Prim.Native.String.{String}
 use native.Mathlib.Omega.{arith}
-use borrow.Author.Tests.{lt-ltb, le-ltb, ne_eqb}
-use denote.Enum.Declared.{tag_of, declared}
+use borrow.Author.Tests.{ne_eqb}
 use lib.ListN.{length, get_or}
 use lib.Seq.{slice}
-use types.Run.{OneOf, miss}
-use Rattle.refusals.specs.declared.Refusal.TheVariants.{Form, Undeclared}
+use Rattle.refusals.specs.declared.Refusal.TheVariants.{Form}
 use Rattle.automaton.specs.Bytes.{bytes}
 use Rattle.hoa_text.specs.Basics.{is_some, same}
 use Rattle.hoa_text.specs.Tokens.{blank, digit, Stream, stands, over, broken, left}
@@ -22,18 +20,16 @@ use Rattle.hoa_text.specs.Formulas.{Formula, Atoms, propositions, sets, proposit
 use Rattle.hoa_text.specs.Formulas as Formulas
 use Rattle.hoa_text.specs.RunOffsets.{digit_blank}
 use Rattle.hoa_text.specs.FirstByte.{excluded}
-use Rattle.hoa_tokens.specs.declared.Token.{Token}
-use Rattle.hoa_tokens.specs.declared.Token.TheVariants.{Word, Item, Number, Quoted, Sign, Body, End, Abort, Unread, Over, Broken}
-use Rattle.hoa_tokens.specs.Answers.{stream, Reads}
-use Rattle.hoa_tokens.specs.contracts.Token.{enum}
-use Rattle.hoa_tokens.proofs.Due.{other_than_number, number_missing, number_due}
+use Rattle.hoa_tokens.specs.declared.Token.TheVariants.{Word}
+use Rattle.hoa_tokens.specs.Answers.{Reads}
+use Rattle.hoa_tokens.proofs.Due.{number_due}
 use Rattle.hoa_offsets.specs.Behind.{Behind}
 use Rattle.hoa_offsets.specs.BehindLaws.{absent, present, behind_it}
 use Rattle.hoa_formulas.specs.declared.Atoms as Declared
 use Rattle.hoa_formulas.specs.declared.Atoms.TheVariants.{Propositions, Sets}
 use Rattle.hoa_formulas.specs.declared.FormulaRead.{FormulaRead}
 use Rattle.hoa_formulas.specs.declared.FormulaRead.TheVariants.{Members, Refused}
-use Rattle.hoa_formulas.specs.Answers.{Satisfy, Read, Answers}
+use Rattle.hoa_formulas.specs.Answers.{Answers}
 use Rattle.hoa_formulas.specs.Parts.{atoms_of, Denies, Closes, ConstantWord, SetWord}
 use Rattle.hoa_formulas.proofs.MemberSets.{all_members, no_members}
 use Rattle.hoa_formulas.proofs.Laws.{answers_from}

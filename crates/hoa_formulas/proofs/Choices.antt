@@ -1,5 +1,5 @@
 -- Laws of the choice of a formula's next token: what stands there, and what does not.
-use mathlib.Core.Path.{◌≡◌, refl, sym, ap, ◌∙◌, subst}
+use mathlib.Core.Path.{◌≡◌, refl, sym, ap, ◌∙◌}
 use mathlib.Core.Logic.{◌≢◌, inl, inr}
 use mathlib.Core.Bool.{Bool, true, false, cond, ◌&&◌}
 use mathlib.Core.List.{List}
@@ -21,7 +21,7 @@ use Rattle.hoa_formulas.specs.declared.FormulaRead.{FormulaRead}
 use Rattle.hoa_formulas.specs.declared.tokens.FormulaToken.{FormulaToken}
 use Rattle.hoa_formulas.specs.declared.tokens.FormulaToken.TheVariants.{Not, And, Or, Open, Close, Constant, Number, Name, Other}
 use Rattle.hoa_formulas.specs.Answers.{Answers}
-use Rattle.hoa_formulas.specs.Choice.{offset_of, OpensNone, Opens, Chosen}
+use Rattle.hoa_formulas.specs.Choice.{offset_of, Opens, Chosen}
 use Rattle.hoa_formulas.specs.Parts.{ConstantAt}
 use Rattle.hoa_formulas.proofs.Laws.{answers_from, sign_first, sign_absent, no_not, not_an_operator, is_atom, unary_atom}
 use Rattle.hoa_formulas.proofs.AtomLaws.{constant_atom, no_atom}

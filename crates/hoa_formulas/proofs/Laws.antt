@@ -10,18 +10,18 @@ use borrow.Author.Tests.{ne_eqb}
 use lib.Bits.{bit_xor}
 use lib.ListN.{length, get_or}
 use Rattle.refusals.specs.declared.Refusal.{Refusal}
-use Rattle.refusals.specs.declared.Refusal.TheVariants.{Form, Size}
+use Rattle.refusals.specs.declared.Refusal.TheVariants.{Form}
 use Rattle.automaton.specs.Bytes.{bytes}
 use Rattle.hoa_text.specs.Tokens.{sign, token, piece, Stream, stands, left}
 use Rattle.hoa_text.specs.Grammar.{is_sign, next, at, gives, refuses, Parsed, then, again, repeat}
-use Rattle.hoa_text.specs.Formulas.{Formula, Atoms, propositions, sets, negation, atom, operation, operands, disjunctions, negated, closed, negates, unary}
-use Rattle.hoa_text.specs.Repetition.{Shrinks, repeat_again, repeat_done, repeat_refuses}
+use Rattle.hoa_text.specs.Formulas.{Formula, Atoms, propositions, sets, negation, atom, operation, disjunctions, negated, closed, negates, unary}
+use Rattle.hoa_text.specs.Repetition.{Shrinks, repeat_again, repeat_done}
 use Rattle.hoa_text.specs.Offsets.{inside}
 use Rattle.hoa_text.specs.SignOffsets.{left_mark}
 use Rattle.hoa_text.specs.FirstByte.{excluded}
 use Rattle.hoa_tokens.specs.Answers.{Skipped}
 use Rattle.hoa_offsets.specs.Behind.{is_sign_of, Behind}
-use Rattle.hoa_offsets.specs.BehindLaws.{absent, present, behind_it, its_offset}
+use Rattle.hoa_offsets.specs.BehindLaws.{absent, present, behind_it}
 use Rattle.hoa_formulas.specs.declared.FormulaRead.{FormulaRead}
 use Rattle.hoa_formulas.specs.declared.FormulaRead.TheVariants.{Members, Refused}
 use Rattle.hoa_formulas.proofs.MemberSets.{members_not}

@@ -2,28 +2,23 @@
 use mathlib.Core.Path.{◌≡◌, refl, sym, ap, ◌∙◌, subst}
 use mathlib.Core.Logic.{◌≢◌}
 use mathlib.Core.Bool.{true, false, ◌&&◌, true≢false, false≢true}
-use mathlib.Core.List.{List, [], ◌∷◌}
+use mathlib.Core.List.{List}
 use mathlib.Core.Option.{Option, none, some}
 use Prim.Native.Nat.{ℕ, ◌≤◌, ◌<◌}
 use native.Mathlib.Omega.{arith}
 use borrow.Author.Tests.{lt-ltb, le-ltb, le-leb, lt-leb}
 use lib.Dec.{ltb, leb}
 use lib.ListN.{length}
-use denote.Enum.Declared.{tag_of, declared}
-use types.Run.{OneOf}
 use Rattle.meaning.specs.TestLaws.{and_true}
 use Rattle.refusals.specs.declared.Refusal.{Refusal}
 use Rattle.refusals.specs.declared.Refusal.TheVariants.{Form, Size}
 use Rattle.refusals.specs.declared.Refusal.TheVariants as Because
 use Rattle.hoa_text.specs.Basics.{is_some}
 use Rattle.hoa_text.specs.Tokens.{Stream, stands, over, broken, left}
-use Rattle.hoa_text.specs.Grammar.{next, rest, at, Result, refuses, Parsed, then}
-use Rattle.hoa_text.specs.Header.{Items, once, states_given, states_item, start_given, start_item, names_item, with_acceptance, sets_item, plain, skipped}
-use Rattle.hoa_tokens.specs.declared.Token.{Token}
+use Rattle.hoa_text.specs.Grammar.{next, rest, Result, refuses, Parsed}
+use Rattle.hoa_text.specs.Header.{Items, once, states_given, states_item, start_item, names_item, with_acceptance, sets_item, plain, skipped}
 use Rattle.hoa_tokens.specs.declared.Token.TheVariants.{Number}
 use Rattle.hoa_tokens.specs.Answers.{Reads}
-use Rattle.hoa_tokens.specs.contracts.Token.{enum}
-use Rattle.hoa_tokens.proofs.Due.{number_missing, number_due}
 use Rattle.hoa_names.specs.declared.Names.{Names}
 use Rattle.hoa_names.specs.declared.NamesRead.{NamesRead}
 use Rattle.hoa_names.specs.declared.Step.{Step}
@@ -112,11 +107,6 @@ module _ (s : List ℕ) (o i : ℕ) (c : Code.Items) where
     first_states : (h : Items) → c ≡ kept h → is_some h.states ≡ false
     first_states h k = sym (ap (λ c. c.counted) k) ∙ new
 
-    pub states_missing : (r : ItemRead) (p : ℕ) (t : Token) → Reads s i t → OneOf (0 ∷ 1 ∷ 3 ∷ 4 ∷ 5 ∷ 6 ∷ 7 ∷ 8 ∷ 9 ∷ 10 ∷ []) (tag_of (declared enum) t) → p ≡ at (left s i)
-        → r ≡ record { step = Refused (Form p); items = c } → ReadsStates s o i c r
-    states_missing r p t h g q e =
-        came_refused (λ h. h.states) states_item s o i c first_states r (Form p) e (λ k. ap (λ x. then x (states_given k (at (left s i)))) (number_due (left s i) p (number_missing s i t h g) q))
-
     pub states_read : (p n e : ℕ) → Reads s i (Number p n e) → (r : ItemRead) → StatesGiven p n e c r → ReadsStates s o i c r
     states_read p n e h r g = came_read (λ h. h.states) states_item s o i c first_states r λ k q.
         subst (λ x. Reaches s i x r.items r.step) (sym (ap (states_item k) h.is)) (g k q s i (omega (arith, h.lies.from, h.lies.longer)) h.lies.to)
@@ -130,11 +120,6 @@ module _ (s : List ℕ) (o i : ℕ) (c : Code.Items) where
   module _ (new : c.started ≡ false) where
     first_start : (h : Items) → c ≡ kept h → is_some h.start ≡ false
     first_start h k = sym (ap (λ c. c.started) k) ∙ new
-
-    pub start_missing : (r : ItemRead) (p : ℕ) (t : Token) → Reads s i t → OneOf (0 ∷ 1 ∷ 3 ∷ 4 ∷ 5 ∷ 6 ∷ 7 ∷ 8 ∷ 9 ∷ 10 ∷ []) (tag_of (declared enum) t) → p ≡ at (left s i)
-        → r ≡ record { step = Refused (Form p); items = c } → ReadsStart s o i c r
-    start_missing r p t h g q e =
-        came_refused (λ h. h.start) start_item s o i c first_start r (Form p) e (λ k. ap (λ x. then x (start_given k (at (left s i)))) (number_due (left s i) p (number_missing s i t h g) q))
 
     pub start_kept : (p n e : ℕ) → Reads s i (Number p n e)
         → ReadsStart s o i c (record { step = Next e; items = with_start c n p })

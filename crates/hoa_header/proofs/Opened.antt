@@ -1,22 +1,19 @@
 -- Laws of the whole header: the value without transitions, `--BODY--`, and the items one by one.
 use mathlib.Core.Path.{◌≡◌, refl, sym, ap, ◌∙◌, subst}
-use mathlib.Core.Bool.{true, false, true≢false, false≢true, and-false}
+use mathlib.Core.Bool.{true, false≢true, and-false}
 use mathlib.Core.List.{List, [], ◌∷◌, ◌++◌}
 use mathlib.Core.Option.{Option, none, some}
 use Prim.Native.Nat.{ℕ, zero, suc, ◌+◌, ◌-◌, ◌≤◌, ◌<◌}
 use native.Mathlib.Numerals.{add-one}
 use native.Mathlib.Omega.{arith}
-use borrow.Author.Tests.{lt-ltb, le-ltb}
+use borrow.Author.Tests.{lt-ltb}
 use lib.Dec.{eqb}
 use lib.ListN.{length, drop, replicate, replicate-append-replicate}
 use lib.Seq.{slice}
-use denote.Enum.Declared.{tag_of, declared}
-use types.Run.{OneOf, miss}
 use Rattle.meaning.specs.Counting.{each}
 use Rattle.automaton.specs.declared.Automaton.{Automaton}
 use Rattle.refusals.specs.declared.Refusal.{Refusal}
-use Rattle.refusals.specs.declared.Refusal.TheVariants.{Form, Undeclared}
-use Rattle.refusals.specs.declared.Refusal.TheVariants as Because
+use Rattle.refusals.specs.declared.Refusal.TheVariants.{Form}
 use Rattle.automaton.specs.Value.{empty}
 use Rattle.automaton.specs.Bytes.{bytes}
 use Rattle.hoa_text.specs.Basics.{option, is_some, begins}
@@ -28,13 +25,10 @@ use Rattle.hoa_text.specs.HeaderProgress.{item_shrinks}
 use Rattle.hoa_tokens.specs.declared.Token.{Token}
 use Rattle.hoa_tokens.specs.declared.Token.TheVariants.{Word, Item, Number, Quoted, Sign, Body, End, Abort, Unread, Over, Broken}
 use Rattle.hoa_tokens.specs.Answers.{stream, Reads}
-use Rattle.hoa_tokens.specs.contracts.Token.{enum}
 use Rattle.hoa_names.specs.declared.Step.{Step}
-use Rattle.hoa_names.specs.declared.Step.TheVariants as Step
 use Rattle.hoa_acceptance.specs.Answers.{Past}
 use Rattle.hoa_header.specs.declared.HeaderRead.{HeaderRead}
 use Rattle.hoa_header.specs.declared.Answer.{Answer}
-use Rattle.hoa_header.specs.declared.Answer.TheVariants as Answer
 use Rattle.hoa_header.specs.declared.items.ItemRead.{ItemRead}
 use Rattle.hoa_header.specs.declared.items.Items as Code
 use Rattle.hoa_header.specs.Kept.{kept, Turned, Turns, ReadsItem}
@@ -63,103 +57,52 @@ unfilled c a e g h = λ i. record {
 
 -- ---- `--BODY--`
 
-missing : {A B : Type 0} (x : Option A) (b : B) (f : A → B) → is_some x ≡ false → option x b f ≡ b
-missing none b f e = refl
-missing (some a) b f e = absurd (true≢false e)
-
 found : {A : Type 0} (x : Option A) → is_some x ≡ true → (a : A) × (x ≡ some a)
 found none e = absurd (false≢true e)
 found (some a) e = (a, refl)
 
-module _ (h : Items) (o : ℕ) (u : Stream) where
-  without_states : is_some h.states ≡ false → opening h o u ≡ refuses (Because.Item o)
-  without_states e = missing h.states (refuses (Because.Item o)) _ e
+with_all : (h : Items) (o : ℕ) (u : Stream) (n : ℕ) → h.states ≡ some n → (x : ℕ × ℕ) → h.start ≡ some x → (y : Accepting) → h.accepting ≡ some y → x.0 < n
+    → opening h o u ≡ gives (record { states = n; start = x.0; names = option h.names [] (λ ws. ws); sets = y.sets; acceptance = y.acceptance }, u)
+with_all h o u n p x q y e l = rw (p, q, e, lt-ltb x.0 n l)
 
-  module _ (n : ℕ) (p : h.states ≡ some n) where
-    without_start : is_some h.start ≡ false → opening h o u ≡ refuses (Because.Item o)
-    without_start e = rw p (missing h.start (refuses (Because.Item o)) _ e)
+-- the value keeps them
+module _ (c : Code.Items) (h : Items) (k : c ≡ kept h) where
+  states_found : c.counted ≡ true → (n : ℕ) × (h.states ≡ some n)
+  states_found e = found h.states (sym (ap (λ c. c.counted) k) ∙ e)
 
-    module _ (x : ℕ × ℕ) (q : h.start ≡ some x) where
-      without_sets : is_some h.accepting ≡ false → opening h o u ≡ refuses (Because.Item o)
-      without_sets e = rw (p, q) (missing h.accepting (refuses (Because.Item o)) _ e)
+  start_found : c.started ≡ true → (x : ℕ × ℕ) × (h.start ≡ some x)
+  start_found e = found h.start (sym (ap (λ c. c.started) k) ∙ e)
 
-      module _ (y : Accepting) (e : h.accepting ≡ some y) where
-        without_such_start : n ≤ x.0 → opening h o u ≡ refuses (Undeclared x.1)
-        without_such_start l = rw (p, q, e, le-ltb x.0 n l)
+  sets_found : c.accepting ≡ true → (y : Accepting) × (h.accepting ≡ some y)
+  sets_found e = found h.accepting (sym (ap (λ c. c.accepting) k) ∙ e)
 
-        with_all : x.0 < n
-            → opening h o u ≡ gives (record { states = n; start = x.0; names = option h.names [] (λ ws. ws); sets = y.sets; acceptance = y.acceptance }, u)
-        with_all l = rw (p, q, e, lt-ltb x.0 n l)
+  states_are : (n : ℕ) → h.states ≡ some n → c.states ≡ n
+  states_are n p = ap (λ c. c.states) k ∙ ap (λ y. option y 0 (λ n. n)) p
 
-module _ (c : Code.Items) (o e : ℕ) where
-  opens_refused : (z : Refusal) (r : HeaderRead) → r ≡ record { answer = Answer.Refused z; automaton = empty } → ((h : Items) → c ≡ kept h → (u : Stream) → opening h o u ≡ refuses z) → Opens c o e r
-  opens_refused z r q g h k s l b = subst (λ r. Answered s (opening h o (left s e)) r.automaton r.answer) (sym q) (g h k (left s e), refl)
+  start_is : (x : ℕ × ℕ) → h.start ≡ some x → c.start ≡ x.0
+  start_is x q = ap (λ c. c.start) k ∙ ap (λ y. option y 0 (λ x. x.0)) q
 
-  pub no_states_given : (r : HeaderRead) → r ≡ record { answer = Answer.Refused (Because.Item o); automaton = empty } → c.counted ≡ false → Opens c o e r
-  no_states_given r q f = opens_refused (Because.Item o) r q (λ h k u. without_states h o u (sym (ap (λ c. c.counted) k) ∙ f))
-
-  module _ (counted : c.counted ≡ true) where
-    states_found : (h : Items) → c ≡ kept h → (n : ℕ) × (h.states ≡ some n)
-    states_found h k = found h.states (sym (ap (λ c. c.counted) k) ∙ counted)
-
-    pub no_start : (r : HeaderRead) → r ≡ record { answer = Answer.Refused (Because.Item o); automaton = empty } → c.started ≡ false → Opens c o e r
-    no_start r q f = opens_refused (Because.Item o) r q λ h k u.
-        let (n, p) = states_found h k in
-        without_start h o u n p (sym (ap (λ c. c.started) k) ∙ f)
-
-    module _ (started : c.started ≡ true) where
-      start_found : (h : Items) → c ≡ kept h → (x : ℕ × ℕ) × (h.start ≡ some x)
-      start_found h k = found h.start (sym (ap (λ c. c.started) k) ∙ started)
-
-      pub no_sets : (r : HeaderRead) → r ≡ record { answer = Answer.Refused (Because.Item o); automaton = empty } → c.accepting ≡ false → Opens c o e r
-      no_sets r q f = opens_refused (Because.Item o) r q λ h k u.
-          let (n, p) = states_found h k in
-          let (x, p₂) = start_found h k in
-          without_sets h o u n p x p₂ (sym (ap (λ c. c.accepting) k) ∙ f)
-
-      module _ (accepting : c.accepting ≡ true) where
-        sets_found : (h : Items) → c ≡ kept h → (y : Accepting) × (h.accepting ≡ some y)
-        sets_found h k = found h.accepting (sym (ap (λ c. c.accepting) k) ∙ accepting)
-
-        -- the value keeps them
-        module _ (h : Items) (k : c ≡ kept h) (n : ℕ) (p : h.states ≡ some n) (x : ℕ × ℕ) (q : h.start ≡ some x) where
-          states_are : c.states ≡ n
-          states_are = ap (λ c. c.states) k ∙ ap (λ y. option y 0 (λ n. n)) p
-
-          start_is : c.start ≡ x.0
-          start_is = ap (λ c. c.start) k ∙ ap (λ y. option y 0 (λ x. x.0)) q
-
-          start_stands : c.offset ≡ x.1
-          start_stands = ap (λ c. c.offset) k ∙ ap (λ y. option y 0 (λ x. x.1)) q
-
-        pub no_such_start : (r : HeaderRead) → r ≡ record { answer = Answer.Refused (Undeclared c.offset); automaton = empty } → c.states ≤ c.start → Opens c o e r
-        no_such_start r q f = opens_refused (Undeclared c.offset) r q λ h k u.
-            let (n, p) = states_found h k in
-            let (x, p₂) = start_found h k in
-            let (y, p₃) = sets_found h k in
-            without_such_start h o u n p x p₂ y p₃ (omega (arith, states_are h k n p x p₂, start_is h k n p x p₂))
-            ∙ ap (λ o. refuses (Undeclared o)) (sym (start_stands h k n p x p₂))
-
-        pub opens : c.start < c.states → (a : Automaton) → Unfilled c a → Opens c o e (record { answer = Answer.Body e; automaton = a })
-        opens f a g h k s l b =
-            let (n, p) = states_found h k in
-            let (x, p₂) = start_found h k in
-            let (y, p₃) = sets_found h k in
-            let names : List (List ℕ) = option h.names [] (λ ws. ws) in
-            let there : Header = record { states = n; start = x.0; names = names; sets = y.sets; acceptance = y.acceptance } in
-            record {
-              header = there;
-              is = with_all h o (left s e) n p x p₂ y p₃ (omega (arith, states_are h k n p x p₂, start_is h k n p x p₂));
-              automaton = g there (record {
-                states = states_are h k n p x p₂;
-                start = start_is h k n p x p₂;
-                names = ap (λ c. c.names) k;
-                sets = ap (λ c. c.sets) k ∙ ap (λ z. option z 0 (λ y. y.sets)) p₃;
-                acceptance = ap (λ c. c.acceptance) k ∙ ap (λ z. option z 0 (λ y. y.acceptance)) p₃;
-              });
-              to = l;
-              behind = b;
-            }
+pub opens : (c : Code.Items) (o e : ℕ) → c.counted ≡ true → c.started ≡ true → c.accepting ≡ true → c.start < c.states → (a : Automaton) → Unfilled c a
+    → Opens c o e (record { answer = Answer.Body e; automaton = a })
+opens c o e counted started accepting f a g h k s l b =
+    let (n, p) = states_found c h k counted in
+    let (x, p₂) = start_found c h k started in
+    let (y, p₃) = sets_found c h k accepting in
+    let names : List (List ℕ) = option h.names [] (λ ws. ws) in
+    let there : Header = record { states = n; start = x.0; names = names; sets = y.sets; acceptance = y.acceptance } in
+    record {
+      header = there;
+      is = with_all h o (left s e) n p x p₂ y p₃ (omega (arith, states_are c h k n p, start_is c h k x p₂));
+      automaton = g there (record {
+        states = states_are c h k n p;
+        start = start_is c h k x p₂;
+        names = ap (λ c. c.names) k;
+        sets = ap (λ c. c.sets) k ∙ ap (λ z. option z 0 (λ y. y.sets)) p₃;
+        acceptance = ap (λ c. c.acceptance) k ∙ ap (λ z. option z 0 (λ y. y.acceptance)) p₃;
+      });
+      to = l;
+      behind = b;
+    }
 
 -- ---- the items, one by one
 

@@ -9,7 +9,7 @@ use borrow.Author.Tests.{not-false}
 use lib.Bits.{bit_xor}
 use lib.ListN.{get_or}
 use Rattle.meaning.specs.BitSet.{has}
-use Rattle.meaning.specs.BitSetLaws.{has_not}
+use Rattle.meaning.proofs.FullSets.{has_not}
 use Rattle.automaton.specs.declared.Automaton.{Automaton}
 use Rattle.bits.specs.Sets.{Lowest}
 use Rattle.refusals.specs.declared.Refusal.{Refusal}

@@ -3,7 +3,6 @@ use mathlib.Core.Path.{ap}
 use native.Mathlib.Omega.{arith}
 use Rattle.hoa_write.specs.declared.Written.TheVariants.{Text}
 use Rattle.console_results.proofs.Printing.{text_handed, refusal_handed}
-use borrow.Author.Rules.{rules}
 use Rattle.console_results.proofs.print_automaton.Goals as goal
 
 pub returns-in-Text : goal.returns-in-Text

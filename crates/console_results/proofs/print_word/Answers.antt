@@ -2,7 +2,6 @@
 use mathlib.Core.Path.{sym, ap, ◌∙◌}
 use lib.ListN.{length}
 use Rattle.decimal.specs.Writing.{wrote_length, wrote_front}
-use borrow.Author.Rules.{rules}
 use Rattle.console_results.proofs.print_word.Goals as goal
 
 pub slice_bounds-print-end : goal.slice_bounds-print-end

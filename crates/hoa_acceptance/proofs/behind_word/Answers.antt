@@ -1,10 +1,9 @@
 -- `behind_word` meets its contract.
 use mathlib.Core.Path.{◌∙◌, subst}
 use native.Mathlib.Omega.{arith}
-use borrow.Author.Rules.{rules}
 use Rattle.hoa_words.specs.Inside.{spelled}
 use Rattle.hoa_tokens.specs.Answers.{Reads}
-use Rattle.hoa_acceptance.proofs.Tokens.{word_stands, word_differs, word_missing}
+use Rattle.hoa_acceptance.proofs.Tokens.{word_stands, word_differs}
 use Rattle.hoa_acceptance.proofs.behind_word.Goals as goal
 
 pub returns-then-spells : goal.returns-then-spells
@@ -16,4 +15,3 @@ pub returns-else-spells : goal.returns-else-spells
 returns-else-spells c =
     let h = subst (Reads _ _) c.in-Word.is c.next_token.ensures in
     word_differs c.args.word.now _ _ _ _ h (spelled _ _ _ c.args.word.now _ c.spells.ensures (omega (arith, h.lies.longer)) h.lies.to ∙ c.if-spells.false)
-

@@ -1,6 +1,5 @@
 -- `counted` meets its contract.
 use mathlib.Core.Path.{subst}
-use borrow.Author.Rules.{rules}
 use Rattle.hoa_text.specs.Formulas.{acceptance_formula}
 use Rattle.hoa_text.specs.Tokens.{left}
 use Rattle.hoa_formulas.specs.Answers.{Answers}

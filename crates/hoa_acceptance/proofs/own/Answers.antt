@@ -1,7 +1,6 @@
 -- `own` meets its contract.
 use mathlib.Core.Path.{ap, ◌∙◌}
 use Prim.Native.Nat.{◌^◌, min}
-use borrow.Author.Rules.{rules}
 use lib.Bits.{bit_and}
 use Rattle.hoa_acceptance.proofs.AcceptanceLaws.{own_members}
 use Rattle.hoa_acceptance.proofs.own.Goals as goal

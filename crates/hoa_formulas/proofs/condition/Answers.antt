@@ -1,6 +1,5 @@
 -- `condition` meets its contract.
 use Rattle.hoa_text.specs.Formulas.{deepest}
-use borrow.Author.Rules.{rules}
 use Rattle.hoa_formulas.proofs.condition.Goals as goal
 
 pub returns : goal.returns

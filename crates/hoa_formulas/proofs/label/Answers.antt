@@ -1,6 +1,5 @@
 -- `label` meets its contract.
 use Rattle.hoa_text.specs.Formulas.{deepest}
-use borrow.Author.Rules.{rules}
 use Rattle.hoa_formulas.proofs.label.Goals as goal
 
 pub returns : goal.returns

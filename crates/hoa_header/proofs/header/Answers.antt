@@ -1,5 +1,4 @@
 -- `header` meets its contract.
-use borrow.Author.Rules.{rules}
 use Rattle.hoa_header.proofs.Opened.{no_format, no_version, versioned}
 use Rattle.hoa_header.proofs.header.Goals as goal
 

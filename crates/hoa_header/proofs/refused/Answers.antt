@@ -1,6 +1,5 @@
 -- `refused` meets its contract.
 use mathlib.Core.Path.{ap}
-use borrow.Author.Rules.{rules}
 use Rattle.hoa_header.specs.declared.Answer.TheVariants.{Refused}
 use Rattle.hoa_header.proofs.refused.Goals as goal
 

@@ -1,5 +1,4 @@
 -- `without_transitions` meets its contract.
-use borrow.Author.Rules.{rules}
 use Rattle.hoa_header.proofs.Opened.{unfilled}
 use Rattle.hoa_header.proofs.without_transitions.Goals as goal
 

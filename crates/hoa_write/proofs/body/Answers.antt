@@ -1,6 +1,5 @@
 -- `body` meets its contract.
 use native.Mathlib.Omega.{arith}
-use borrow.Author.Rules.{rules}
 use lib.ListN.{length, length-append}
 use Rattle.meaning.specs.Counting.{each}
 use Rattle.hoa_text.specs.Written.{state_lines, end_line}

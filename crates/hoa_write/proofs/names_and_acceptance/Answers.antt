@@ -1,6 +1,5 @@
 -- `names_and_acceptance` meets its contract.
 use native.Mathlib.Omega.{arith}
-use borrow.Author.Rules.{rules}
 use lib.ListN.{length, length-append}
 use Rattle.hoa_text.specs.Written.{names_part, acceptance_line}
 use Rattle.hoa_write.proofs.Writing.{wrote_rest, rest_room}

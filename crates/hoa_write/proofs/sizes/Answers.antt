@@ -1,6 +1,5 @@
 -- `sizes` meets its contract.
 use native.Mathlib.Omega.{arith}
-use borrow.Author.Rules.{rules}
 use lib.ListN.{length, length-append}
 use Rattle.hoa_text.specs.Written.{states_line, start_line}
 use Rattle.hoa_write.proofs.Writing.{wrote_rest, rest_room}

@@ -1,13 +1,8 @@
 -- `states` meets its contract: what is written is the lines of the first q states.
-use mathlib.Core.Path.{refl}
 use Prim.Native.Nat.{◌≤◌, ◌-◌}
-use native.Mathlib.Omega.{arith}
-use lib.ListN.{length}
 use Rattle.meaning.specs.Counting.{each}
 use Rattle.decimal.specs.Wrote.{Wrote}
-use Rattle.decimal.specs.Writing.{wrote_none, wrote_length, wrote_part}
 use Rattle.hoa_text.specs.Written.{state_lines}
-use Rattle.hoa_write.proofs.Writing.{each_more, each_room, each_whole, part_room, part_le}
 use Rattle.hoa_write.proofs.states.Given as goal
 
 abbrev pub invariant-loop-q : goal.invariant-loop-q

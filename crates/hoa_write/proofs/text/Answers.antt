@@ -1,6 +1,5 @@
 -- `text` meets its contract.
 use native.Mathlib.Omega.{arith}
-use borrow.Author.Rules.{rules}
 use lib.ListN.{length, length-append}
 use Rattle.hoa_write.proofs.Answers.{sizes_text, names_text, body_text, text_is, text_length}
 use Rattle.hoa_write.proofs.Writing.{wrote_rest, rest_room, named}

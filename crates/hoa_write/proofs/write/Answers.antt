@@ -1,6 +1,5 @@
 -- `write` meets its contract.
 use native.Mathlib.Omega.{arith}
-use borrow.Author.Rules.{rules}
 use Rattle.hoa_text.proofs.WrittenLength.{text_le}
 use Rattle.hoa_write.proofs.Answers.{short_answer, outside_answer, text_answer}
 use Rattle.hoa_write.proofs.write.Goals as goal

@@ -1,12 +1,10 @@
 -- `around::closed` meets its contract.
 use mathlib.Core.Path.{refl, subst}
-use mathlib.Core.List.{[], ◌∷◌}
 use native.Mathlib.Omega.{arith}
 use Rattle.hoa_text.specs.Offsets.{byte_inside}
 use Rattle.hoa_formulas.specs.Choice.{Chosen}
 use Rattle.hoa_formulas.proofs.Laws.{closes_refused, closes_read, stays_open}
 use Rattle.hoa_formulas.proofs.Choices.{no_sign, behind_close, passes}
-use borrow.Author.Rules.{rules}
 use Rattle.hoa_formulas.proofs.around.closed.Goals as goal
 
 pub overflow_add-result : goal.overflow_add-result

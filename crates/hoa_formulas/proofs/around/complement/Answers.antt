@@ -1,6 +1,5 @@
 -- `around::complement` meets its contract.
 use Rattle.hoa_formulas.proofs.Laws.{denies_refused, denies_read}
-use borrow.Author.Rules.{rules}
 use Rattle.hoa_formulas.proofs.around.complement.Goals as goal
 
 pub returns-in-Refused : goal.returns-in-Refused

@@ -3,7 +3,6 @@ use mathlib.Core.Path.{◌∙◌}
 use native.Mathlib.Omega.{arith}
 use Rattle.hoa_words.specs.Inside.{spelled}
 use Rattle.hoa_formulas.proofs.AtomLaws.{is_true, is_false, is_neither}
-use borrow.Author.Rules.{rules}
 use Rattle.hoa_formulas.proofs.terms.constant_word.Goals as goal
 
 pub returns-then-spells : goal.returns-then-spells

@@ -1,6 +1,5 @@
 -- `terms::named` meets its contract.
 use Rattle.hoa_formulas.proofs.AtomLaws.{name_in_label, name_set}
-use borrow.Author.Rules.{rules}
 use Rattle.hoa_formulas.proofs.terms.named.Goals as goal
 
 pub returns-in-Propositions : goal.returns-in-Propositions

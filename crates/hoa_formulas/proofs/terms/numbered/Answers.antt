@@ -1,6 +1,5 @@
 -- `terms::numbered` meets its contract.
 use Rattle.hoa_formulas.proofs.AtomLaws.{digit_proposition, digit_in_condition}
-use borrow.Author.Rules.{rules}
 use Rattle.hoa_formulas.proofs.terms.numbered.Goals as goal
 
 pub returns-in-Propositions : goal.returns-in-Propositions

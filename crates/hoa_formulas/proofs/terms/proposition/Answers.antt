@@ -1,5 +1,4 @@
 -- `terms::proposition` meets its contract.
-use borrow.Author.Rules.{rules}
 use Rattle.hoa_formulas.proofs.terms.proposition.Goals as goal
 
 pub returns-then-end-at : goal.returns-then-end-at

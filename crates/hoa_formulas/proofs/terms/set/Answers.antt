@@ -3,7 +3,6 @@ use mathlib.Core.Path.{subst}
 use Rattle.hoa_text.specs.Formulas.{sets, named}
 use Rattle.hoa_tokens.specs.Answers.{Reads}
 use Rattle.hoa_formulas.proofs.AtomLaws.{word_lies, word_read}
-use borrow.Author.Rules.{rules}
 use Rattle.hoa_formulas.proofs.terms.set.Goals as goal
 
 pub set_word-requires : goal.set_word-requires
@@ -11,4 +10,3 @@ set_word-requires c = word_lies _ _ _ _ (subst (Reads _ _) c.in-Word.is c.next_t
 
 pub returns-in-Word : goal.returns-in-Word
 returns-in-Word c = word_read (named (sets _)) _ _ _ _ c.set_word.result (subst (Reads _ _) c.in-Word.is c.next_token.ensures) c.set_word.ensures
-

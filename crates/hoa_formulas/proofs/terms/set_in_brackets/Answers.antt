@@ -1,6 +1,5 @@
 -- `terms::set_in_brackets` meets its contract.
 use Rattle.hoa_formulas.proofs.AtomLaws.{brackets_absent, in_brackets}
-use borrow.Author.Rules.{rules}
 use Rattle.hoa_formulas.proofs.terms.set_in_brackets.Goals as goal
 
 pub returns-then-next-at : goal.returns-then-next-at

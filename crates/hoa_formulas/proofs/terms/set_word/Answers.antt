@@ -3,7 +3,6 @@ use mathlib.Core.Path.{◌∙◌}
 use native.Mathlib.Omega.{arith}
 use Rattle.hoa_words.specs.Inside.{spelled}
 use Rattle.hoa_formulas.proofs.AtomLaws.{is_inf, is_fin, is_no_set}
-use borrow.Author.Rules.{rules}
 use Rattle.hoa_formulas.proofs.terms.set_word.Goals as goal
 
 pub returns-then-spells : goal.returns-then-spells

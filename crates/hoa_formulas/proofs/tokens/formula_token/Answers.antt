@@ -1,10 +1,6 @@
 -- `tokens::formula_token` meets its contract.
-use mathlib.Core.Path.{sym, ap, ◌∙◌}
+use mathlib.Core.Path.{sym, ◌∙◌}
 use mathlib.Core.Logic.{inl, inr}
-use native.Mathlib.Omega.{arith}
-use borrow.Author.Rules.{rules}
-use Rattle.hoa_text.specs.Tokens.{digit}
-use Rattle.hoa_text.specs.Numbers.{digit_between, below_digits, above_digits}
 use Rattle.hoa_formulas.proofs.tokens.formula_token.Goals as goal
 
 pub returns-in-116 : goal.returns-in-116
@@ -22,4 +18,3 @@ returns-in-73 c =
 pub returns-in-70 : goal.returns-in-70
 returns-in-70 c =
     record { skipped = c.first_byte-first.ensures.0; opens = inr (sym c.first_byte-first.ensures.1 ∙ c.in-70.is) }
-

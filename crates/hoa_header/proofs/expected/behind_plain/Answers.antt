@@ -1,9 +1,8 @@
 -- `expected::behind_plain` meets its contract.
 use mathlib.Core.Path.{subst}
 use native.Mathlib.Omega.{arith}
-use borrow.Author.Rules.{rules}
 use Rattle.hoa_tokens.specs.Answers.{Reads}
-use Rattle.hoa_header.proofs.Tokens.{plain_word, plain_number, plain_quoted, not_plain}
+use Rattle.hoa_header.proofs.Tokens.{plain_word, plain_number, plain_quoted}
 use Rattle.hoa_header.proofs.expected.behind_plain.Goals as goal
 
 pub overflow_add-result : goal.overflow_add-result
@@ -19,4 +18,3 @@ returns-in-Number c = plain_number _ _ _ _ _ (subst (Reads _ _) c.in-Number.is c
 
 pub returns-in-Quoted : goal.returns-in-Quoted
 returns-in-Quoted c = plain_quoted _ _ _ _ (subst (Reads _ _) c.in-Quoted.is c.next_token.ensures)
-

@@ -1,5 +1,4 @@
 -- `items::acceptance_item` meets its contract.
-use borrow.Author.Rules.{rules}
 use Rattle.hoa_header.proofs.Kept.{sets_twice, sets_refused, sets_kept}
 use Rattle.hoa_header.proofs.items.acceptance_item.Goals as goal
 

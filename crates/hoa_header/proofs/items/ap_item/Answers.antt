@@ -1,5 +1,4 @@
 -- `items::ap_item` meets its contract.
-use borrow.Author.Rules.{rules}
 use Rattle.hoa_header.proofs.Kept.{names_twice, names_kept}
 use Rattle.hoa_header.proofs.items.ap_item.Goals as goal
 

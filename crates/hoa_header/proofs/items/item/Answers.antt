@@ -1,8 +1,6 @@
 -- `items::item` meets its contract.
 use mathlib.Core.Path.{refl, ◌∙◌}
 use native.Mathlib.Omega.{arith}
-use borrow.Author.Tests.{not-true, not-false}
-use borrow.Author.Rules.{rules}
 use Rattle.hoa_words.specs.Inside.{item_named}
 use Rattle.hoa_names.specs.declared.Step.TheVariants.{Next}
 use Rattle.hoa_header.proofs.Turns.{turn_states, turn_start, turn_names, turn_sets, turn_other, turn_skipped}

@@ -1,7 +1,6 @@
 -- `items::no_items` meets its contract.
 use mathlib.Core.Path.{ap}
 use mathlib.Core.Bool.{false}
-use borrow.Author.Rules.{rules}
 use Rattle.hoa_header.proofs.items.no_items.Goals as goal
 
 pub returns : goal.returns

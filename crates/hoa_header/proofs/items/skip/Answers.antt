@@ -1,9 +1,6 @@
 -- `items::skip` meets its contract.
-use Prim.Native.Nat.{◌-◌}
 use native.Mathlib.Omega.{arith}
-use borrow.Author.Rules.{rules}
-use lib.ListN.{length}
-use Rattle.hoa_header.proofs.Kept.{Skipping, skipping_none, skipping_done, skipping_more}
+use Rattle.hoa_header.proofs.Kept.{skipping_none, skipping_done, skipping_more}
 use Rattle.hoa_header.proofs.items.skip.Goals as goal
 
 pub loop-end-init : goal.loop-end-init

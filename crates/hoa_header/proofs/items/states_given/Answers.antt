@@ -1,5 +1,4 @@
 -- `items::states_given` meets its contract.
-use borrow.Author.Rules.{rules}
 use Rattle.hoa_header.proofs.Kept.{states_none, states_over, states_kept}
 use Rattle.hoa_header.proofs.items.states_given.Goals as goal
 

@@ -1,8 +1,7 @@
 -- `items::states_item` meets its contract.
 use mathlib.Core.Path.{subst}
-use borrow.Author.Rules.{rules}
 use Rattle.hoa_tokens.specs.Answers.{Reads}
-use Rattle.hoa_header.proofs.Kept.{states_twice, states_read, states_missing}
+use Rattle.hoa_header.proofs.Kept.{states_twice, states_read}
 use Rattle.hoa_header.proofs.items.states_item.Goals as goal
 
 pub returns-then-items : goal.returns-then-items
@@ -12,4 +11,3 @@ returns-then-items c =
 pub returns-in-Number : goal.returns-in-Number
 returns-in-Number c =
     states_read c.args.text.now c.args.name c.args.at c.args.items c.if-items.false _ _ _ (subst (Reads _ _) c.in-Number.is c.next_token.ensures) c.states_given.result c.states_given.ensures
-

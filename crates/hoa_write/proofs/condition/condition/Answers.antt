@@ -1,7 +1,6 @@
 -- `condition` meets its contract.
 use mathlib.Core.Path.{ap}
 use native.Mathlib.Omega.{arith}
-use borrow.Author.Rules.{rules}
 use lib.ListN.{length}
 use Rattle.hoa_write.proofs.Cases.{condition_all, condition_true, condition_false, condition_sum}
 use Rattle.hoa_write.proofs.Writing.{named}

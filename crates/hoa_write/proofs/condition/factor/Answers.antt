@@ -1,7 +1,6 @@
 -- `factor` meets its contract.
 use mathlib.Core.Path.{ap}
 use native.Mathlib.Omega.{arith}
-use borrow.Author.Rules.{rules}
 use lib.ListN.{length, length-append}
 use Rattle.decimal.specs.Writing.{wrote_then, roomy_then, room_left}
 use Rattle.hoa_text.specs.Written.{decimal}

@@ -1,13 +1,8 @@
 -- `product` meets its contract: what is written is the first i factors.
-use mathlib.Core.Path.{ap, sym}
 use Prim.Native.Nat.{◌≤◌, ◌-◌}
-use native.Mathlib.Omega.{arith}
-use lib.ListN.{length}
 use Rattle.meaning.specs.Counting.{each}
 use Rattle.decimal.specs.Wrote.{Wrote}
-use Rattle.decimal.specs.Writing.{wrote_none, wrote_length}
-use Rattle.hoa_write.specs.Pieces.{factor_piece, product_pieces}
-use Rattle.hoa_write.proofs.Writing.{each_more, each_room, each_whole, named}
+use Rattle.hoa_write.specs.Pieces.{factor_piece}
 use Rattle.hoa_write.proofs.condition.product.Given as goal
 
 abbrev pub invariant-loop-i : goal.invariant-loop-i

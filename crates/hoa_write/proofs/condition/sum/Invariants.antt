@@ -1,13 +1,8 @@
 -- `sum` meets its contract: what is written is the summands below x.
-use Prim.Native.Nat.{◌≤◌, ◌-◌, ◌^◌}
-use native.Mathlib.Omega.{arith}
-use borrow.Author.Rules.{rules}
+use Prim.Native.Nat.{◌≤◌, ◌-◌}
 use Rattle.meaning.specs.Counting.{each}
-use Rattle.bits.specs.Powers.{power_is}
 use Rattle.decimal.specs.Wrote.{Wrote}
-use Rattle.decimal.specs.Writing.{wrote_none, wrote_length}
 use Rattle.hoa_write.specs.Pieces.{summand_piece}
-use Rattle.hoa_write.proofs.Writing.{each_more, each_room, each_whole}
 use Rattle.hoa_write.proofs.condition.sum.Given as goal
 
 abbrev pub invariant-loop-x : goal.invariant-loop-x

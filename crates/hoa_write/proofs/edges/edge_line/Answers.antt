@@ -1,7 +1,6 @@
 -- `edge_line` meets its contract.
 use mathlib.Core.Path.{ap}
 use native.Mathlib.Omega.{arith}
-use borrow.Author.Rules.{rules}
 use lib.ListN.{length}
 use Rattle.decimal.specs.Writing.{roomy_then}
 use Rattle.hoa_write.proofs.Cases.{edge_is, edge_length}

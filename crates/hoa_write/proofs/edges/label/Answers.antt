@@ -1,7 +1,6 @@
 -- `label` meets its contract.
 use mathlib.Core.Path.{ap, sym}
 use native.Mathlib.Omega.{arith}
-use borrow.Author.Rules.{rules}
 use lib.ListN.{length}
 use Rattle.hoa_text.specs.Written.{label_of}
 use Rattle.hoa_write.proofs.Cases.{label_some}

@@ -1,8 +1,5 @@
 -- `literals` meets its contract: what is written is the first i pieces.
-use Prim.Native.Nat.{◌≤◌, ◌-◌}
 use native.Mathlib.Omega.{arith}
-use Rattle.meaning.specs.Counting.{each}
-use Rattle.decimal.specs.Wrote.{Wrote}
 use Rattle.decimal.specs.Writing.{wrote_none, wrote_length}
 use Rattle.hoa_write.specs.Pieces.{literal_piece}
 use Rattle.hoa_write.proofs.Writing.{each_more, each_room, each_whole}

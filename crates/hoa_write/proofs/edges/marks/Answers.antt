@@ -1,7 +1,6 @@
 -- `marks` meets its contract.
 use mathlib.Core.Path.{ap}
 use native.Mathlib.Omega.{arith}
-use borrow.Author.Rules.{rules}
 use lib.ListN.{length, length-append}
 use Rattle.meaning.specs.Counting.{each}
 use Rattle.decimal.specs.Writing.{roomy_then, room_left}

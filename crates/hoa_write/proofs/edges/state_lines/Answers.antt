@@ -1,6 +1,5 @@
 -- `state_lines` meets its contract.
 use native.Mathlib.Omega.{arith}
-use borrow.Author.Rules.{rules}
 use lib.ListN.{length, length-append}
 use Rattle.meaning.specs.Counting.{each}
 use Rattle.automaton.specs.Value.{letters}

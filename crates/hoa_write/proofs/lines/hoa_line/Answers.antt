@@ -1,6 +1,5 @@
 -- `hoa_line` meets its contract.
 use native.Mathlib.Omega.{arith}
-use borrow.Author.Rules.{rules}
 use Rattle.decimal.specs.Writing.{roomy_then}
 use Rattle.hoa_write.proofs.lines.hoa_line.Goals as goal
 

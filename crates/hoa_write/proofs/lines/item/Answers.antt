@@ -1,6 +1,5 @@
 -- `item` meets its contract.
 use native.Mathlib.Omega.{arith}
-use borrow.Author.Rules.{rules}
 use lib.ListN.{length, length-append}
 use Rattle.decimal.specs.Writing.{roomy_then, room_left}
 use Rattle.hoa_text.specs.Written.{decimal}

@@ -1,7 +1,6 @@
 -- `names_part` meets its contract.
 use mathlib.Core.Path.{ap}
 use native.Mathlib.Omega.{arith}
-use borrow.Author.Rules.{rules}
 use lib.ListN.{length}
 use Rattle.hoa_write.proofs.Values.{names_none, names_some}
 use Rattle.hoa_write.proofs.Writing.{named}

@@ -1,6 +1,5 @@
 -- `number_line` meets its contract.
 use native.Mathlib.Omega.{arith}
-use borrow.Author.Rules.{rules}
 use lib.ListN.{length-append}
 use Rattle.decimal.specs.Writing.{roomy_then}
 use Rattle.hoa_write.proofs.lines.number_line.Goals as goal

@@ -1,7 +1,6 @@
 -- `quoted_name` meets its contract.
 use mathlib.Core.Path.{ap}
 use native.Mathlib.Omega.{arith}
-use borrow.Author.Rules.{rules}
 use lib.ListN.{length}
 use Rattle.decimal.specs.Writing.{roomy_then}
 use Rattle.hoa_write.proofs.Values.{quoted_is}

@@ -1,11 +1,8 @@
 -- `quoted_names` meets its contract: what is written is the first i names.
 use Prim.Native.Nat.{◌≤◌, ◌-◌}
-use native.Mathlib.Omega.{arith}
 use Rattle.meaning.specs.Counting.{each}
 use Rattle.decimal.specs.Wrote.{Wrote}
-use Rattle.decimal.specs.Writing.{wrote_none, wrote_length}
 use Rattle.hoa_text.specs.Written.{quoted_name}
-use Rattle.hoa_write.proofs.Writing.{each_more, each_room, each_whole}
 use Rattle.hoa_write.proofs.lines.quoted_names.Given as goal
 
 abbrev pub invariant-loop-i : goal.invariant-loop-i

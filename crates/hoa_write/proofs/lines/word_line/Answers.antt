@@ -1,6 +1,5 @@
 -- `word_line` meets its contract.
 use native.Mathlib.Omega.{arith}
-use borrow.Author.Rules.{rules}
 use Rattle.decimal.specs.Writing.{roomy_then}
 use Rattle.hoa_write.proofs.lines.word_line.Goals as goal
 

@@ -1,5 +1,4 @@
 -- `byte_if` meets its contract.
-use borrow.Author.Rules.{rules}
 use Rattle.hoa_write.proofs.Cases.{byte_there, byte_none}
 use Rattle.hoa_write.proofs.parts.byte_if.Goals as goal
 

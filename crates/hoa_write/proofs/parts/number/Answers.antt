@@ -1,5 +1,4 @@
 -- `number` meets its contract.
-use borrow.Author.Rules.{rules}
 use Rattle.hoa_write.proofs.Cases.{number_wrote}
 use Rattle.hoa_write.proofs.parts.number.Goals as goal
 

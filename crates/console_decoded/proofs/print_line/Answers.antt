@@ -1,0 +1,8 @@
+-- `print_line` meets its contract.
+use mathlib.Core.Path.{ap, ◌∙◌}
+use Rattle.console_decoded.specs.Printed.{unworded}
+use borrow.Author.Rules.{rules}
+use Rattle.console_decoded.proofs.print_line.Goals as goal
+
+pub returns : goal.returns
+returns c = c.unworded.ensures ∙ ap unworded c.refuse-refused.ensures.line
