@@ -17,10 +17,6 @@ use Rattle.hoa_text.specs.Body.{body_read}
 use Rattle.hoa_text.specs.Reading.{read}
 use Rattle.hoa_text.specs.Examples.{one_state, both_for_ever}
 use Rattle.decks.specs.Words.{ReadAs, HoaTextRefused, Counts, Satisfiable, Prints, Stating, DecodedAs, DecoderRefuses, SolverTextRefused}
-use Rattle.decks.specs.First.{first_read, first_prints, first_none}
-use Rattle.decks.specs.AllRuns.{all_runs, all_runs_read, all_runs_counts, all_runs_some, states_satisfying, one_two_decoded, states_no_step, minus_one_decoded, one_three_refused, one_one_refused}
-use Rattle.decks.specs.Both.{both_read, counts_one_one, none_one_one, counts_two_one, some_two_one, counts_one_two, some_one_two}
-use Rattle.decks.specs.Largest.{at_most, met, largest, largest_valid}
 
 -- ---- the statement
 
@@ -77,41 +73,4 @@ pub record KnownDecks : Type 0 where
   -- "k = 1, only `[0]`: 7,0,0."
   pub no_edge : HoaTextRefused (bytes "HOA: v1 States: 1 Start: 0 AP: 1 \"a\" Acceptance: 0 t --BODY-- State: 0 [0] 0 --END--") (row 7 0 0)
   -- "`[0]` then `[t]`: 6,0,1."
-  pub second_edge_lem : HoaTextRefused (bytes "HOA: v1 States: 1 Start: 0 AP: 1 \"a\" Acceptance: 0 t --BODY-- State: 0 [0] 0 [t] 0 --END--") (row 6 0 1)
-
--- ---- the proof
-
-pub known_decks : KnownDecks
-unfolding read item_read body_read deepest set_of
-known_decks = record {
-  first_deck = (one_state, first_read, record { prints = first_prints; unsatisfiable = first_none });
-  all_runs = (
-    all_runs,
-    all_runs_read,
-    record {
-      counts = all_runs_counts;
-      satisfiable = all_runs_some;
-      states = states_satisfying;
-      accepted = one_two_decoded;
-      states_no_step = states_no_step;
-      no_step = minus_one_decoded;
-      past_last = one_three_refused;
-      given_twice = one_one_refused;
-    },
-  );
-  both_for_ever = (
-    both_for_ever,
-    both_read,
-    record {
-      counts_one_one = counts_one_one;
-      none_one_one = none_one_one;
-      counts_two_one = counts_two_one;
-      some_two_one = some_two_one;
-      counts_one_two = counts_one_two;
-      some_one_two = some_one_two;
-    },
-  );
-  largest_sizes = record { at_most = λ a τ v d. at_most v d; met = met; reference = (largest, largest_valid, refl, refl, refl) };
-  no_edge = (NoEdge 0 0, refl, refl);
-  second_edge_lem = (SecondEdge 0 1, refl, refl);
-}
+  pub second_edge : HoaTextRefused (bytes "HOA: v1 States: 1 Start: 0 AP: 1 \"a\" Acceptance: 0 t --BODY-- State: 0 [0] 0 [t] 0 --END--") (row 6 0 1)

@@ -1,15 +1,5 @@
 pub mod Judgement
 pub mod Conditions
-pub mod Decisions
-pub mod HoaJudged
-pub mod ComparisonJudged
-pub mod ClausesJudged
-pub mod SolverTextJudged
-pub mod DecoderJudged
-pub mod SearchJudged
-pub mod ComparisonOnce
-pub mod DecoderOnce
-pub mod SearchOnce
 pub mod Demand1
 pub mod Demand2
 pub mod Demand3

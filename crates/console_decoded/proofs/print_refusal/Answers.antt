@@ -20,5 +20,3 @@ returns-in-Dimensions c = line_handed _ _ (9 ∷ []) (miss (9 ∷ []) 13 tt) c.i
 pub returns-in-Outside : goal.returns-in-Outside
 returns-in-Outside c = line_handed _ _ (5 ∷ []) (miss (5 ∷ []) 13 tt) c.in-Outside.in-Outside-own.keys3 c.print_line-in-Outside.ensures
 
-pub returns-in_default : goal.returns-in_default
-returns-in_default c = line_handed _ _ others (miss others 13 tt) c.in_default.in_default-own.keys4 c.print_line-in_default.ensures

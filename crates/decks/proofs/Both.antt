@@ -21,7 +21,7 @@ use Rattle.hoa_text.specs.Reading.{read}
 use Rattle.hoa_text.specs.Accepted.{accepted_valid}
 use Rattle.hoa_text.specs.Examples.{both_for_ever}
 use Rattle.decks.specs.Words.{Counts, Satisfiable}
-use Rattle.decks.specs.Tested.{tested_satisfies}
+use Rattle.decks.proofs.TestedLaws.{tested_satisfies}
 
 pub both_read : read
     (bytes "HOA: v1 States: 1 Start: 0 AP: 2 \"a\" \"b\" Acceptance: 2 Inf(0)&Inf(1) "

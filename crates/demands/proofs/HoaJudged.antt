@@ -20,7 +20,7 @@ use Rattle.hoa_write.specs.declared.Written.{Written}
 use Rattle.hoa_write.specs.Answer.{hoa_room, Answered, returned as writer-said}
 use Rattle.demands.specs.Judgement.{TurnedDown, Judged}
 use Rattle.demands.specs.Conditions.{to_write, to_read}
-use Rattle.demands.specs.Decisions.{some_none, fault_decided, fault_is, judged, valid_decided}
+use Rattle.demands.proofs.Decisions.{some_none, fault_decided, fault_is, judged, valid_decided}
 
 text_judged : (s : List ℕ) → Judged (to_read s) (hoa-said (read s)) (Unit {0})
 unfolding read

@@ -17,7 +17,7 @@ use Rattle.search.specs.declared.Answer.TheVariants.{Taken, Finished}
 use Rattle.search.specs.declared.Reply.{Reply}
 use Rattle.search.specs.Replies.{Found, Untouched, Differs, InRange, AskedFor, InfOfAll, refused, replied}
 use Rattle.search.specs.Replies as state
-use Rattle.demands.specs.ComparisonOnce.{Alike, alike, alike_word}
+use Rattle.demands.proofs.ComparisonOnce.{Alike, alike, alike_word}
 
 -- ---- a row: what is due where its condition is not met, and else the rows after it
 

@@ -33,8 +33,8 @@ use Rattle.hoa_text.specs.Reading.{read}
 use Rattle.hoa_text.specs.Accepted.{accepted_valid}
 use Rattle.decks.specs.Words as words
 use Rattle.decks.specs.Words.{Counts, Stating, DecodedAs, DecoderRefuses, SolverTextRefused}
-use Rattle.decks.specs.Solver.{by_assignment, text_refused, stating}
-use Rattle.decks.specs.Tested.{tested_satisfies}
+use Rattle.decks.proofs.Solver.{by_assignment, text_refused, stating}
+use Rattle.decks.proofs.TestedLaws.{tested_satisfies}
 
 abbrev pub all_runs : Automaton
 all_runs = record {

@@ -12,7 +12,7 @@ use Rattle.search.specs.Replies.{Started, Told, Found, Untouched, refused, retur
 use Rattle.search.specs.Replies as state
 use Rattle.demands.specs.Judgement.{TurnedDown, Accepted, Judged}
 use Rattle.demands.specs.Conditions.{to_start, to_go_on, to_find, JudgesFinding}
-use Rattle.demands.specs.Decisions.{some_none, other_number, judged_refused, judged_accepted}
+use Rattle.demands.proofs.Decisions.{some_none, other_number, judged_refused, judged_accepted}
 
 holds : {r x : Reply} → r ≡ x → r.search ≡ x.search
 holds e = ap (λ (r : Reply). r.search) e

@@ -24,8 +24,8 @@ use Rattle.decode.specs.Answers.{whole, said, without, Differs, ByComparison, By
 use Rattle.decode.specs.Table.{decoded_value, AllStep, LowestWithout}
 use Rattle.decode.specs.Value.{decoded_valid}
 use Rattle.decode.specs.Missing.{all_or_lowest}
-use Rattle.demands.specs.Decisions.{valid_decided, in_range_decided, dimensioned_decided, own_sets_decided, agree_decided}
-use Rattle.demands.specs.ComparisonOnce.{Alike, alike, alike_word}
+use Rattle.demands.proofs.Decisions.{valid_decided, in_range_decided, dimensioned_decided, own_sets_decided, agree_decided}
+use Rattle.demands.proofs.ComparisonOnce.{Alike, alike, alike_word}
 
 module _ {prefix p q loop l m : List ℕ} {x y : Decoded} {a : Automaton} where
   differs : {C : Automaton} → Differs prefix p loop l x a C → Differs prefix q loop m y a C → Alike x y p q l m

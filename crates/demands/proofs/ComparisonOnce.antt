@@ -11,7 +11,7 @@ use Rattle.automaton.specs.View.{view}
 use Rattle.compare.specs.declared.Comparison.{Comparison}
 use Rattle.compare.specs.declared.Comparison.TheVariants.{Refused}
 use Rattle.compare.specs.Compared.{Compared, Shown, prefix_room, loop_room}
-use Rattle.demands.specs.Decisions.{valid_decided, agree_decided}
+use Rattle.demands.proofs.Decisions.{valid_decided, agree_decided}
 
 -- ---- two outcomes of a call: an answer, and the two buffers
 

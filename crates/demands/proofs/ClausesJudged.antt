@@ -21,7 +21,7 @@ use Rattle.clause_line.specs.Line.{LineStepped, LineAnswers}
 use Rattle.clause_text.specs.Answers.{BatchStepped, BatchAnswers}
 use Rattle.demands.specs.Judgement.{Accepted, Judged}
 use Rattle.demands.specs.Conditions.{to_count, to_hand_out}
-use Rattle.demands.specs.Decisions.{judged_refused, judged_accepted}
+use Rattle.demands.proofs.Decisions.{judged_refused, judged_accepted}
 
 -- ---- the header
 

@@ -30,8 +30,8 @@ use Rattle.decode.specs.Value.{decoded_valid}
 use Rattle.decode.specs.Missing.{all_or_lowest}
 use Rattle.demands.specs.Judgement.{TurnedDown, Accepted}
 use Rattle.demands.specs.Conditions.{fault_code, verdict_of, stated_by, to_decode, Answers, JudgesDecoding}
-use Rattle.demands.specs.SolverTextJudged.{fault_number}
-use Rattle.demands.specs.Decisions.{Decided, fault_decided, decision, some_none, other_number, judged_refused, judged_accepted, valid_decided, in_range_decided, dimensioned_decided, own_sets_decided, agree_decided}
+use Rattle.demands.proofs.SolverTextJudged.{fault_number}
+use Rattle.demands.proofs.Decisions.{Decided, fault_decided, decision, some_none, other_number, judged_refused, judged_accepted, valid_decided, in_range_decided, dimensioned_decided, own_sets_decided, agree_decided}
 
 -- ---- verdicts
 

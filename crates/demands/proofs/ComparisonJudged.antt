@@ -12,7 +12,7 @@ use Rattle.compare.specs.declared.Comparison.TheVariants.{Same, Refused}
 use Rattle.compare.specs.Compared.{Compared, Untouched, returned as comparison-said, prefix_room, loop_room}
 use Rattle.demands.specs.Judgement.{TurnedDown, Accepted}
 use Rattle.demands.specs.Conditions.{to_compare, JudgesComparison}
-use Rattle.demands.specs.Decisions.{Decided, decision, some_none, other_number, judged_refused, judged_accepted, valid_decided, agree_decided}
+use Rattle.demands.proofs.Decisions.{Decided, decision, some_none, other_number, judged_refused, judged_accepted, valid_decided, agree_decided}
 
 module _ {a b : Automaton} {prefix prefix-after loop loop-after : List ℕ} {answer : Comparison} (c : Compared a b prefix prefix-after loop loop-after answer) where
   -- without a word

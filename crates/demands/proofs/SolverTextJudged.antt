@@ -23,7 +23,7 @@ use Rattle.solver_agreement.specs.Staying.{accepted_place, at_both}
 use Rattle.solver_agreement.specs.Pieces.{whole_text, Tells}
 use Rattle.demands.specs.Judgement.{TurnedDown, Accepted}
 use Rattle.demands.specs.Conditions.{to_begin, no_fault, JudgesReading}
-use Rattle.demands.specs.Decisions.{Decided, fault_decided, fault_is, some_none, judged, valid_decided, dimensioned_decided, own_sets_decided, in_range_decided}
+use Rattle.demands.proofs.Decisions.{Decided, fault_decided, fault_is, some_none, judged, valid_decided, dimensioned_decided, own_sets_decided, in_range_decided}
 
 -- ---- one call
 

@@ -1,0 +1,13 @@
+pub mod Decisions
+pub mod HoaJudged
+pub mod ComparisonJudged
+pub mod ClausesJudged
+pub mod SolverTextJudged
+pub mod DecoderJudged
+pub mod SearchJudged
+pub mod ComparisonOnce
+pub mod DecoderOnce
+pub mod SearchOnce
+pub mod Demand1Proved
+pub mod Demand2Proved
+pub mod Demand3Proved
