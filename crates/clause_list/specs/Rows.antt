@@ -1,6 +1,6 @@
 -- What the rows of a file's sizes say where they are those of the reference's tables: which paths there are, and that their numbers are those of the named file.
 use Rattle.std.specs.Prelude.{◌≡◌, true, List, ℕ, ◌^◌, ◌<◌}
-use Rattle.std.proofs.Common.{ap, ◌∙◌}
+use Rattle.std.proofs.Common.{ap}
 use Rattle.meaning.specs.Automata.{WellFormed}
 use Rattle.meaning.specs.BitSet.{has}
 use Rattle.meaning.specs.MarkSets.{set_of_same}

@@ -1,6 +1,6 @@
 -- Stretches of positions without a clause.
-use Rattle.std.specs.Prelude.{◌≡◌, refl, Bool, true, false, ◌&&◌, List, ℕ, suc, ◌+◌, ◌-◌, ◌*◌, ◌/◌, ◌%◌, ◌^◌, ◌≤◌, ◌<◌, get_or}
-use Rattle.std.proofs.Common.{sym, ap, ap₂, ◌∙◌, subst, div-one, div-lt_iff_lt-mul, mul-le-mul, le_refl, mod-lt, div-add-mod', le_antisymm, arith, pow_pos}
+use Rattle.std.specs.Prelude.{◌≡◌, refl, Bool, false, ◌&&◌, List, ℕ, ◌+◌, ◌-◌, ◌*◌, ◌/◌, ◌%◌, ◌^◌, ◌≤◌, ◌<◌, get_or}
+use Rattle.std.proofs.Common.{sym, ap, ap₂, ◌∙◌, subst, div-one, div-lt_iff_lt-mul, mul-le-mul, le_refl, mod-lt, div-add-mod', arith, pow_pos}
 use Rattle.std.proofs.Math.Bool.{and-false}
 use Rattle.std.proofs.Math.Nat.{div-div-eq-div-mul}
 use Rattle.std.proofs.Math.Arith.{digits_div}
@@ -11,12 +11,11 @@ use Rattle.clause_sizes.specs.Numbers.{kept_among}
 use Rattle.clause_variables.specs.Kept.{KeptIfAny}
 use Rattle.clause_indices.specs.declared.Indices.{Indices}
 use Rattle.clause_indices.specs.declared.extent.Extent.{Extent}
-use Rattle.clause_indices.specs.Indices.{Within, EntryIfAny, extensions, closures, extension_indices, ExtentOf}
+use Rattle.clause_indices.specs.Indices.{Within, closures, extension_indices, ExtentOf}
 use Rattle.clause_list.specs.declared.digits.Marking.{Marking}
 use Rattle.clause_list.specs.declared.digits.Transition.{Transition}
-use Rattle.clause_list.specs.Digits.{MarkingOf, TransitionOf, closure_indices}
-use Rattle.clause_list.specs.Position.{shared_at, closes_at}
-use Rattle.clause_list.specs.Gaps.{Stretch, Failing, ThirdStretch, FourthStretch, Absent, AbsentBetween, third, fourth}
+use Rattle.clause_list.specs.Digits.{MarkingOf, TransitionOf}
+use Rattle.clause_list.specs.Gaps.{Stretch, Failing, ThirdStretch, FourthStretch, AbsentBetween, third, fourth}
 
 -- ---- the first multiple past x
 

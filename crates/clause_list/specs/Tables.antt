@@ -1,5 +1,5 @@
 -- DEFINITIONS: the reference as the functions here get it: its counts among the sizes, and its start and its two tables beside them.
-use Rattle.std.specs.Prelude.{◌≡◌, ℕ, ◌+◌, ◌*◌, ◌^◌, ◌<◌, List, get_or}
+use Rattle.std.specs.Prelude.{ℕ, ◌+◌, ◌*◌, ◌^◌, ◌<◌, List, get_or}
 use Rattle.meaning.specs.Automata.{Aut}
 use Rattle.meaning.specs.BitSet.{has, set_of}
 use Rattle.encoding.specs.Variables.{Task, path}

@@ -73,6 +73,13 @@ module _ (z : Sizes) (x : Indices) (head last : ℕ) where
       → Wrote d at (line_text (line_of z x head last)) h end
   line_written {d} {h} {at} {end} i j k l = subst (λ t. Wrote d at t h end) line_is (wrote_then i (wrote_then j (wrote_then k l)))
 
+  -- after its last number there is room for what closes it
+  pub line_room : {d e f g : List ℕ} {at a b c : ℕ} → Wrote d at first_text e a → Wrote e a middle_text f b → Wrote f b last_text g c
+      → length (line_text (line_of z x head last)) ≤ 80 → at + 80 ≤ length d → (length g ≡ length d) × (c + 2 ≤ length g)
+  line_room {d} {g = g} i j k short room =
+      let same : length g ≡ length d = wrote_length k ∙ wrote_length j ∙ wrote_length i in
+      (same, omega (arith, same, pieces_length, i.next, j.next, k.next, short, room))
+
 -- ---- the numbers of the paths
 
 -- that of a path after the first one

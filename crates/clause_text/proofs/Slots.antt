@@ -90,9 +90,6 @@ module _ {text_of : ℕ → ℕ → List ℕ} {width count : ℕ} where
               let same-slot : k ≡ j = omega (arith, ltb-false j k e, ltb-false k j g) in
               subst (Holds text_of width f (set sizes k (name * 128 + r))) same-slot (inr (subst (Slot text_of width f (set sizes k (name * 128 + r)) k) (sym name_is) here))
 
-  pub found_room : {kept sizes : List ℕ} {k name r : ℕ} → Found text_of width count kept sizes k name r → k < count → length kept ≡ count * width → k * width + r ≤ length kept
-  found_room {k} s h g = omega (arith, s.size, s.slot.fits, mul-le-mul {n₁ = k + 1} {m₁ = width} {n₂ = count} {m₂ = width} (omega arith) (omega arith))
-
   -- ---- a slot that has the text t
 
   module _ {k name : ℕ} {t : List ℕ} (is : text_of k name ≡ t) where

@@ -5,7 +5,6 @@ use mathlib.Core.Bool.{Bool, true, false, false≢true}
 use mathlib.Core.List.{List}
 use Prim.Native.Nat.{ℕ, ◌≤◌}
 use native.Mathlib.Omega.{arith}
-use denote.Enum.Declared.{tag_of, declared}
 use lib.ListN.{length, take, length-take}
 use Rattle.automaton.specs.declared.Automaton.{Automaton}
 use Rattle.refusals.specs.declared.Refusal.{Refusal}
@@ -18,17 +17,11 @@ use Rattle.clause_step.specs.declared.Handed.{Handed}
 use Rattle.clause_step.specs.Step.{last_position}
 use Rattle.clause_step.specs.Range.{positions_le}
 use Rattle.clause_step.specs.Refusals.{turned_down_short}
-use Rattle.clause_step.specs.contracts.Answer.{enum}
 use Rattle.clause_text.specs.Answers.{BatchAnswers, BatchStepped}
 use Rattle.clause_text.specs.Batches.{TextCall, bytes}
 use Rattle.console_clauses.specs.Left.{fewer_left}
 use Rattle.console_clauses.specs.Prints.{ended, turned_down}
 use Rattle.console_clauses.specs.Batch.{HandsBatch}
-
-ended_tag : (b : Answer) → tag_of (declared enum) b ≡ 1 → b ≡ Ended
-ended_tag (Written k) e = let z : ◌≡◌ {A = ℕ} 0 1 = e in absurd (omega arith)
-ended_tag Ended e = refl
-ended_tag (Refused f) e = let z : ◌≡◌ {A = ℕ} 2 1 = e in absurd (omega arith)
 
 module _ (a : Automaton) (τ : Target) (x : ℕ) (d e : List ℕ) (h : Handed) (s : BatchStepped a τ x d e h) (v : Valid a) (z : Proper τ) (i : x ≤ last_position)
     (size : 262144 ≡ length d) where
@@ -67,22 +60,20 @@ module _ (a : Automaton) (τ : Target) (x : ℕ) (d e : List ℕ) (h : Handed) (
   }
 
   -- nothing was written, and there is no more
-  pub ended_now : tag_of (declared enum) h.answer ≡ 1 → HandsBatch a τ x (record { more = false; ended = true; position = h.position; length = 0 })
-  ended_now t =
-      let is : h.answer ≡ Ended = ended_tag h.answer t in
-      record {
-        call = the_call;
-        from = refl;
-        stepped = inr s;
-        position = refl;
-        length_is = sym (ap (λ b. length (bytes b e)) is);
-        accepted = ap turned_down is;
-        says = sym (ap ended is);
-        most = omega arith;
-        stays = in_range;
-        fewer = λ t. absurd (false≢true t);
-        unended = λ t. absurd (false≢true t);
-      }
+  pub ended_now : h.answer ≡ Ended → HandsBatch a τ x (record { more = false; ended = true; position = h.position; length = 0 })
+  ended_now is = record {
+    call = the_call;
+    from = refl;
+    stepped = inr s;
+    position = refl;
+    length_is = sym (ap (λ b. length (bytes b e)) is);
+    accepted = ap turned_down is;
+    says = sym (ap ended is);
+    most = omega arith;
+    stays = in_range;
+    fewer = λ t. absurd (false≢true t);
+    unended = λ t. absurd (false≢true t);
+  }
 
   -- there is room for a line, so that no call is turned down
   pub never_refused : {P : Type 0} {f : Refusal} → h.answer ≡ Refused f → P

@@ -1,4 +1,4 @@
--- DEFINITIONS of reachable states, for document 02's E7: those to which a word leads from the start. The empty word leads to the start itself.
+-- Begun for references with unreachable states, and cited by no contract yet: those to which a word leads from the start. The empty word leads to the start itself.
 use Rattle.std.specs.Prelude.{ℕ, ◌<◌, Bool}
 use Rattle.meaning.specs.Automata.{Aut}
 use Rattle.meaning.specs.Components.{Leads, reaches}

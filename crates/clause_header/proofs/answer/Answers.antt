@@ -1,7 +1,6 @@
 -- `answer` meets its contract.
 use mathlib.Core.Path.{sym, ap, ◌∙◌}
 use native.Mathlib.Omega.{arith}
-use borrow.Author.Rules.{rules}
 use Rattle.meaning.specs.BitSet.{bit}
 use Rattle.clause_header.proofs.answer.Goals as goal
 

@@ -3,7 +3,6 @@ use Rattle.clause_sizes.specs.Sizes.{Fitting}
 use Rattle.clause_indices.specs.Indices.{ExtentOf}
 use Rattle.clause_list.specs.Measured.{measured_tables}
 use Rattle.clause_header.proofs.Counting.{candidates_le, three_le, two_sets_le, markings_le, third_factor_le, third_le, fourth_le, clauses_are}
-use borrow.Author.Rules.{rules}
 use native.Mathlib.Omega.{arith}
 use Rattle.clause_header.proofs.clauses_of.Goals as goal
 

@@ -1,10 +1,9 @@
 -- `closure_count` meets its contract. The invariant: the sum over the first y transitions.
 use mathlib.Core.Path.{◌≡◌, ap₂, ◌∙◌}
-use Prim.Native.Nat.{◌*◌, ◌-◌, ◌≤◌}
+use Prim.Native.Nat.{◌*◌}
 use Rattle.meaning.specs.Counting.{total}
 use Rattle.clause_header.specs.ClosureCount.{closures_at}
 use Rattle.clause_header.proofs.Counting.{transitions_le, step_lt, transition_counted, total_none, total_more}
-use borrow.Author.Rules.{rules}
 use native.Mathlib.Omega.{arith}
 use Rattle.clause_header.proofs.closure_count.Goals as goal
 

@@ -1,6 +1,6 @@
 -- `closures_by` meets its contract. The invariant: the sum over the first j sets.
 use mathlib.Core.Path.{◌≡◌, ap, ◌∙◌}
-use Prim.Native.Nat.{◌*◌, ◌-◌, ◌^◌, ◌≤◌}
+use Prim.Native.Nat.{◌^◌}
 use Rattle.encoding.specs.Clauses.{◌∪◌}
 use Rattle.meaning.specs.Counting.{total}
 use Rattle.clause_header.specs.ClosureCount.{pairs_for}

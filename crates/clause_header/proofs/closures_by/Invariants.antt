@@ -1,12 +1,9 @@
 -- `closures_by` meets its contract. The invariant: the sum over the first j sets.
-use mathlib.Core.Path.{◌≡◌, ap, ◌∙◌}
-use Prim.Native.Nat.{◌*◌, ◌-◌, ◌^◌, ◌≤◌}
+use mathlib.Core.Path.{◌≡◌}
+use Prim.Native.Nat.{◌*◌, ◌-◌, ◌≤◌}
 use Rattle.encoding.specs.Clauses.{◌∪◌}
 use Rattle.meaning.specs.Counting.{total}
 use Rattle.clause_header.specs.ClosureCount.{pairs_for}
-use Rattle.clause_sizes.specs.Limits.{reference_subsets_le}
-use Rattle.clause_header.proofs.Counting.{total_none, total_more}
-use native.Mathlib.Omega.{arith}
 use Rattle.clause_header.proofs.closures_by.Given as goal
 
 abbrev pub invariant-loop-j : goal.invariant-loop-j

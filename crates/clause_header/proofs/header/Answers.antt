@@ -4,7 +4,6 @@ use lib.ListN.{length}
 use Rattle.clause_sizes.specs.Measured.{sizing_of, sizing_refused, measured_of}
 use Rattle.clause_sizes.specs.Sizes.{target_of}
 use Rattle.clause_sizes.specs.Targets.{file}
-use borrow.Author.Rules.{rules}
 use Rattle.clause_header.proofs.header.Goals as goal
 
 pub clauses_of-clauses-requires : goal.clauses_of-clauses-requires

@@ -1,7 +1,6 @@
 -- `pairs_for` meets its contract.
 use mathlib.Core.Path.{sym, ◌∙◌}
 use native.Mathlib.Omega.{arith}
-use borrow.Author.Rules.{rules}
 use Rattle.clause_header.proofs.Counting.{pairs_le, pairs_no, pairs_yes}
 use Rattle.clause_header.proofs.pairs_for.Goals as goal
 

@@ -1,6 +1,5 @@
 -- `shares` meets its contract.
 use native.Mathlib.Omega.{arith}
-use borrow.Author.Rules.{rules}
 use Rattle.clause_header.proofs.Counting.{shares_counted}
 use Rattle.clause_header.proofs.shares.Goals as goal
 

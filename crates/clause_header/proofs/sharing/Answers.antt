@@ -1,6 +1,6 @@
 -- `sharing` meets its contract. The invariant: the count over the first y of all u, v and l.
 use mathlib.Core.Path.{◌≡◌, ap, ◌∙◌}
-use Prim.Native.Nat.{◌*◌, ◌/◌, ◌%◌, ◌-◌, ◌≤◌}
+use Prim.Native.Nat.{◌*◌, ◌/◌, ◌%◌}
 use Rattle.meaning.specs.Counting.{total}
 use Rattle.clause_header.specs.SharingCount.{shares_by}
 use Rattle.clause_header.proofs.Counting.{squares_le, triples_le, triple_place, total_none, total_more}

@@ -1,10 +1,8 @@
 -- `sharing` meets its contract. The invariant: the count over the first y of all u, v and l.
-use mathlib.Core.Path.{◌≡◌, ap, ◌∙◌}
-use Prim.Native.Nat.{◌*◌, ◌/◌, ◌%◌, ◌-◌, ◌≤◌}
+use mathlib.Core.Path.{◌≡◌}
+use Prim.Native.Nat.{◌/◌, ◌%◌, ◌-◌, ◌≤◌}
 use Rattle.meaning.specs.Counting.{total}
 use Rattle.clause_header.specs.SharingCount.{shares_by}
-use Rattle.clause_header.proofs.Counting.{squares_le, triples_le, triple_place, total_none, total_more}
-use native.Mathlib.Omega.{arith}
 use Rattle.clause_header.proofs.sharing.Given as goal
 
 abbrev pub invariant-loop-y : goal.invariant-loop-y

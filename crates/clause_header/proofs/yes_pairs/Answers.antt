@@ -1,10 +1,6 @@
 -- `yes_pairs` meets its contract. The invariant: the sum over the first x pairs.
-use mathlib.Core.Path.{◌≡◌}
-use Prim.Native.Nat.{◌-◌, ◌≤◌}
 use native.Mathlib.Omega.{arith}
-use borrow.Author.Rules.{rules}
-use Rattle.meaning.specs.Counting.{total}
-use Rattle.clause_header.proofs.Counting.{pairs_le, own_some, yes_at, in_a_row, total_none, total_more}
+use Rattle.clause_header.proofs.Counting.{pairs_le, own_some, in_a_row, total_none, total_more}
 use Rattle.clause_header.proofs.yes_pairs.Goals as goal
 
 pub overflow_mul-pairs : goal.overflow_mul-pairs

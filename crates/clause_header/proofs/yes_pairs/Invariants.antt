@@ -1,10 +1,8 @@
 -- `yes_pairs` meets its contract. The invariant: the sum over the first x pairs.
 use mathlib.Core.Path.{◌≡◌}
 use Prim.Native.Nat.{◌-◌, ◌≤◌}
-use native.Mathlib.Omega.{arith}
-use borrow.Author.Rules.{rules}
 use Rattle.meaning.specs.Counting.{total}
-use Rattle.clause_header.proofs.Counting.{pairs_le, own_some, yes_at, in_a_row, total_none, total_more}
+use Rattle.clause_header.proofs.Counting.{yes_at}
 use Rattle.clause_header.proofs.yes_pairs.Given as goal
 
 abbrev pub invariant-loop-x : goal.invariant-loop-x

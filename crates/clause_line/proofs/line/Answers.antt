@@ -3,20 +3,10 @@ use mathlib.Core.Path.{refl, sym}
 use lib.Seq.{length-take-le}
 use Rattle.clause_step.specs.Step.{short}
 use Rattle.clause_line.proofs.Answering.{line_none, clause_room_lem, line_written}
-use borrow.Author.Rules.{rules}
 use Rattle.clause_line.proofs.line.Goals as goal
 
 pub returns-then-given-lt-LINE : goal.returns-then-given-lt-LINE
 returns-then-given-lt-LINE c = (short c.if-given-lt-LINE.true, refl, refl)
-
-pub slice_bounds-step-end : goal.slice_bounds-step-end
-slice_bounds-step-end c = refl
-
-pub step-handed-requires : goal.step-handed-requires
-step-handed-requires c = tt
-
-pub write_line-end-requires : goal.write_line-end-requires
-write_line-end-requires c = tt
 
 pub returns : goal.returns
 returns c = line_written c.args.reference c.args.target c.args.position c.step-handed.new.clause c.step-handed.result c.step-handed.ensures c.args.text.now c.if-given-lt-LINE.false c.in-Written.is c.write_line-end.ensures

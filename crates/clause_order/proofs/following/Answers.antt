@@ -2,21 +2,6 @@
 use Rattle.clause_order.proofs.Carries.{next_K, next_J, next_I, next_l, next_v}
 use Rattle.clause_order.proofs.following.Goals as goal
 
-pub wrapping_add_usize-k-requires : goal.wrapping_add_usize-k-requires
-wrapping_add_usize-k-requires c = tt
-
-pub wrapping_add_usize-j-requires : goal.wrapping_add_usize-j-requires
-wrapping_add_usize-j-requires c = tt
-
-pub wrapping_add_usize-i-requires : goal.wrapping_add_usize-i-requires
-wrapping_add_usize-i-requires c = tt
-
-pub wrapping_add_usize-l-requires : goal.wrapping_add_usize-l-requires
-wrapping_add_usize-l-requires c = tt
-
-pub wrapping_add_usize-requires : goal.wrapping_add_usize-requires
-wrapping_add_usize-requires c = tt
-
 pub returns : goal.returns
 returns c = next_v c.args.z c.args.x c.wrapping_add_usize-k.ensures.value c.if-k-z.false c.wrapping_add_usize-j.ensures.value c.if-j-z.false c.wrapping_add_usize-i.ensures.value c.if-i-z.false c.wrapping_add_usize-l.ensures.value c.if-l-z.false c.wrapping_add_usize.ensures.value
 

@@ -1,5 +1,4 @@
 -- `find` meets its contract.
-use borrow.Author.Rules.{rules}
 use Rattle.clause_list.specs.Measured.{measured_tables, measured_start}
 use Rattle.clause_step.proofs.Laws.{found_ended, found_written, hands_length}
 use Rattle.clause_step.proofs.find.Goals as goal

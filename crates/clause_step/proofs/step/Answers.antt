@@ -1,11 +1,10 @@
 -- `step` meets its contract: refusals in document 01's order, then what is found.
 use mathlib.Core.Path.{refl, subst}
 use Rattle.clause_step.specs.Step.{short, outside, StepFound}
-use Rattle.clause_sizes.specs.Measured.{sizing_of, sizing_refused, measured_of}
+use Rattle.clause_sizes.specs.Measured.{sizing_of, sizing_refused}
 use Rattle.clause_sizes.specs.Sizes.{target_of}
 use Rattle.clause_step.specs.Shared.{refused_sizes}
 use Rattle.clause_step.proofs.Laws.{stepped}
-use borrow.Author.Rules.{rules}
 use native.Mathlib.Omega.{arith}
 use Rattle.clause_step.proofs.step.Goals as goal
 

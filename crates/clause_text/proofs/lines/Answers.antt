@@ -6,7 +6,6 @@ use Rattle.clause_sizes.specs.Sizes.{target_of}
 use Rattle.clause_step.specs.Shared.{refused_sizes}
 use Rattle.clause_text.specs.Answers.{BatchFound}
 use Rattle.clause_text.proofs.Answering.{batch_accepted}
-use borrow.Author.Rules.{rules}
 use native.Mathlib.Omega.{arith}
 use Rattle.clause_text.proofs.lines.Goals as goal
 

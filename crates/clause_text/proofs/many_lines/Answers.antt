@@ -1,5 +1,4 @@
 -- `many_lines` meets its contract.
-use borrow.Author.Rules.{rules}
 use Rattle.decimal.specs.Writing.{wrote_length}
 use Rattle.clause_list.specs.Measured.{measured_tables, measured_start}
 use Rattle.clause_text.proofs.Answering.{batch_ended, batch_handed}

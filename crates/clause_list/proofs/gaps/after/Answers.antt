@@ -1,7 +1,6 @@
 -- `gaps::after` meets its contract.
 use native.Mathlib.Omega.{arith}
-use borrow.Author.Rules.{rules}
-use Rattle.clause_list.specs.Stretches.{stretch_le, one_more, after_third, after_fourth}
+use Rattle.clause_list.specs.Stretches.{one_more, after_third, after_fourth}
 use Rattle.clause_list.proofs.gaps.after.Goals as goal
 
 pub overflow_add-before : goal.overflow_add-before

@@ -1,7 +1,5 @@
 -- `gaps::fourth_stretch` meets its contract.
 use native.Mathlib.Omega.{arith}
-use borrow.Author.Rules.{rules}
-use borrow.Author.Tests.{not-true}
 use Rattle.clause_list.proofs.Places.{transition_lt, entry_is, step_lt}
 use Rattle.clause_list.specs.Stretches.{alone, markings_le, all_markings_le, no_closing}
 use Rattle.clause_list.proofs.gaps.fourth_stretch.Goals as goal

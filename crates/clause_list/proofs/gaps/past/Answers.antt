@@ -1,7 +1,6 @@
 -- `gaps::past` meets its contract.
 use native.Mathlib.Nat.{div-le_self, div-mul-le_self}
 use native.Mathlib.Omega.{arith}
-use borrow.Author.Rules.{rules}
 use Rattle.clause_list.specs.Stretches.{stretch_is}
 use Rattle.clause_list.proofs.gaps.past.Goals as goal
 

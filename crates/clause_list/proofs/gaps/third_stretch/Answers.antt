@@ -1,7 +1,5 @@
 -- `gaps::third_stretch` meets its contract.
 use native.Mathlib.Omega.{arith}
-use borrow.Author.Rules.{rules}
-use borrow.Author.Tests.{not-true}
 use Rattle.clause_list.proofs.Places.{indices_lt, entry_is}
 use Rattle.clause_list.specs.Stretches.{alone, markings_le, all_markings_le, state_le, no_row_lem, no_step}
 use Rattle.clause_list.proofs.gaps.third_stretch.Goals as goal

@@ -3,7 +3,6 @@ use mathlib.Core.Path.{◌∙◌}
 use lib.ListN.{length-set}
 use Rattle.decimal.specs.Writing.{wrote_length}
 use Rattle.clause_indices.specs.Literals.{stored, wrote_after, premise_short, premise_eight, positive_of}
-use borrow.Author.Rules.{rules}
 use native.Mathlib.Omega.{arith}
 use Rattle.clause_list.proofs.groups.extension.Goals as goal
 

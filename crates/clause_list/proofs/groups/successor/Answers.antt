@@ -2,7 +2,6 @@
 use mathlib.Core.Path.{◌∙◌}
 use lib.ListN.{length-set}
 use Rattle.clause_indices.specs.Literals.{stored, wrote_three, positive_of, negative_of}
-use borrow.Author.Rules.{rules}
 use native.Mathlib.Omega.{arith}
 use Rattle.clause_list.proofs.groups.successor.Goals as goal
 

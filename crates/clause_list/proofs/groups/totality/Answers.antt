@@ -1,11 +1,9 @@
 -- `totality` meets its contract. The invariant: the first p steps stand at the start of the buffer.
-use Prim.Native.Nat.{◌-◌, ◌≤◌}
 use mathlib.Core.Path.{◌≡◌, refl, ◌∙◌, subst}
 use Rattle.decimal.specs.Wrote.{Wrote}
 use Rattle.decimal.specs.Writing.{wrote_length}
 use Rattle.clause_list.specs.Groups.{totality_of}
 use Rattle.clause_indices.specs.Literals.{stored, wrote_each_none, wrote_each_more, positive_of}
-use borrow.Author.Rules.{rules}
 use native.Mathlib.Omega.{arith}
 use Rattle.clause_list.proofs.groups.totality.Goals as goal
 

@@ -1,9 +1,6 @@
 -- `extension_indices` meets its contract.
 use native.Mathlib.Omega.{arith}
-use borrow.Author.Rules.{rules}
-use borrow.Author.Tests.{not-true, not-false}
 use Rattle.clause_sizes.specs.Conjunctions.{false_not}
-use Rattle.clause_sizes.specs.Sizes.{Fitting}
 use Rattle.clause_list.proofs.Places.{third_lt, no_indices}
 use Rattle.clause_list.proofs.indices.extension_indices.Goals as goal
 

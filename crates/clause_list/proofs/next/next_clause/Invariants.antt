@@ -1,10 +1,6 @@
 -- `next_clause` meets its contract. The invariant: nothing is written yet, and what comes next from x on comes next from the beginning.
-use mathlib.Core.Path.{ap, ◌∙◌}
 use Prim.Native.Nat.{◌-◌}
-use lib.ListN.{length}
-use Rattle.clause_list.proofs.Standing.{stands_length}
-use Rattle.clause_list.proofs.Nexts.{Waiting, waiting_start, waiting_more, waiting_here, waiting_end}
-use native.Mathlib.Omega.{arith}
+use Rattle.clause_list.proofs.Nexts.{Waiting}
 use Rattle.clause_list.proofs.next.next_clause.Given as goal
 
 abbrev pub invariant-loop-x : goal.invariant-loop-x

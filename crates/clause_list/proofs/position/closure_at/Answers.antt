@@ -1,23 +1,16 @@
 -- `closure_at` meets its contract.
--- the indices lie in their ranges
 use mathlib.Core.Path.{◌≡◌, sym, ap, ◌∙◌, subst}
 use mathlib.Core.Bool.{◌&&◌}
-use borrow.Author.Rules.{rules}
-use borrow.Author.Tests.{not-true, not-false}
 use Rattle.meaning.specs.TestLaws.{and_left}
 use Rattle.clause_sizes.specs.Numbers.{kept_among, InFile}
 use Rattle.clause_indices.specs.Indices.{Within, path_at}
 use Rattle.clause_list.specs.Digits.{closure_within}
 use Rattle.clause_list.specs.Rows.{kept_path}
 use Rattle.clause_list.proofs.Places.{kept_is, indices_lt, entry_is, closure_none, closure_written}
-use Rattle.decimal.specs.Writing.{wrote_length}
 use Rattle.clause_list.proofs.position.closure_at.Goals as goal
 
 pub closure_indices-indices-requires : goal.closure_indices-indices-requires
 closure_indices-indices-requires c = (c.requires.tables.fits, c.requires.x_bound.0)
-
-pub disagree-requires : goal.disagree-requires
-disagree-requires c = search rules
 
 pub returns-then-not-kept-disagree : goal.returns-then-not-kept-disagree
 returns-then-not-kept-disagree c =
@@ -26,9 +19,6 @@ returns-then-not-kept-disagree c =
     closure_none c.args.z c.args.destinations.now c.args.marks.now _ c.closure_indices-indices.ensures
     (entry_is (indices_lt c.requires.tables.fits within) c.entry-f.ensures) row_is
     (sym (ap (λ t. c.kept.result && t) c.disagree.ensures) ∙ c.if-not-kept-disagree.true)
-
-pub premise-requires : goal.premise-requires
-premise-requires c = search rules
 
 pub returns : goal.returns
 returns c =

@@ -1,6 +1,5 @@
 -- `closure_indices` meets its contract.
 use Rattle.clause_list.proofs.Places.{transition_lt, entry_is, closure_is}
-use borrow.Author.Rules.{rules}
 use native.Mathlib.Omega.{arith}
 use Rattle.clause_list.proofs.position.closure_indices.Goals as goal
 

@@ -1,7 +1,6 @@
 -- `disagree` meets its contract.
 use mathlib.Core.Path.{ap₂}
 use mathlib.Core.Bool.{xor}
-use borrow.Author.Rules.{rules}
 use Rattle.clause_list.proofs.position.disagree.Goals as goal
 
 pub returns : goal.returns

@@ -1,23 +1,16 @@
 -- `extension_at` meets its contract.
 use mathlib.Core.Path.{◌≡◌, sym, ◌∙◌}
-use mathlib.Core.Bool.{true}
 use Prim.Native.Nat.{◌+◌, ◌*◌}
-use borrow.Author.Rules.{rules}
-use borrow.Author.Tests.{not-true, not-false}
 use lib.Bits.{or_lt}
 use lib.ListN.{get_or}
 use Rattle.meaning.specs.TestLaws.{and_left, and_right}
 use Rattle.clause_sizes.specs.Numbers.{kept_among}
 use Rattle.clause_list.specs.Rows.{kept_path}
-use Rattle.clause_list.proofs.Standing.{stands_length}
 use Rattle.clause_list.proofs.Places.{kept_is, indices_lt, entry_is, step_within, marks_within, extension_none, extension_stands}
 use Rattle.clause_list.proofs.position.extension_at.Goals as goal
 
 pub indices_of-indices-requires : goal.indices_of-indices-requires
 indices_of-indices-requires c = (c.requires.tables.fits, c.requires.x_bound.0)
-
-pub kept-requires-2 : goal.kept-requires-2
-kept-requires-2 c = search rules
 
 pub returns-then-not-kept : goal.returns-then-not-kept
 returns-then-not-kept c =

@@ -1,5 +1,4 @@
 -- `successor_at` meets its contract.
-use borrow.Author.Rules.{rules}
 use Rattle.decimal.specs.Writing.{wrote_length}
 use Rattle.clause_list.proofs.Places.{transition_lt, entry_is, successive, successor_written}
 use native.Mathlib.Omega.{arith}

@@ -1,6 +1,6 @@
 -- `passing::past` meets its contract.
 use native.Mathlib.Nat.{mod-le}
-use Rattle.std.proofs.Common.{arith, rules}
+use Rattle.std.proofs.Common.{arith}
 use Rattle.clause_order.proofs.Widths.{Small, sizes_in, sizes_out, two_le, three_le, width_le, fitting_in, width_some, no_past, first_past, a_past}
 use Rattle.clause_order.proofs.passing.past.Goals as goal
 

@@ -2,7 +2,6 @@
 use Rattle.clause_order.proofs.Widths.{letter_passed, letter_wrapped}
 use Rattle.clause_order.proofs.passing.past_letter.Goals as goal
 
-
 pub returns : goal.returns
 returns c =
     letter_wrapped c.args.z c.args.x c.args.position c.wrapping_add_usize-l.ensures.value c.if-l-z.false c.wrapping_add_usize.ensures.value c.past-after.ensures

@@ -1,12 +1,7 @@
 -- `fill` meets its contract. The invariant: so many lines are written, and the next clause is looked for at x.
 use mathlib.Core.Path.{◌∙◌}
-use Prim.Native.Nat.{◌-◌}
 use native.Mathlib.Omega.{arith}
 use Rattle.decimal.specs.Writing.{wrote_length}
-use Rattle.clause_sizes.specs.Numbers.{number_of}
-use Rattle.clause_list.specs.Tables.{task_of}
-use Rattle.clause_text.specs.Blocks.{Texts}
-use Rattle.clause_text.specs.Filling.{Lines}
 use Rattle.clause_text.proofs.Slots.{kept_none}
 use Rattle.clause_text.proofs.Batches.{lines_none, lines_then, lines_room, lines_filled, both_same, further_less}
 use Rattle.clause_text.proofs.batch.fill.Goals as goal

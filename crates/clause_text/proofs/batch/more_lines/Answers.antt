@@ -5,7 +5,6 @@ use native.Mathlib.Omega.{arith}
 use lib.ListN.{length}
 use Rattle.clause_text.proofs.Batches.{line_further}
 use Rattle.clause_text.proofs.Blocks.{in_group, extensions_short, extensions_further}
-use borrow.Author.Rules.{rules}
 use Rattle.clause_text.proofs.batch.more_lines.Goals as goal
 
 pub returns-then-room-from : goal.returns-then-room-from

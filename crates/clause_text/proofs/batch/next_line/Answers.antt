@@ -4,11 +4,7 @@ use native.Mathlib.Omega.{arith}
 use lib.Seq.{length-take-le}
 use Rattle.clause_text.specs.NextLine.{nothing}
 use Rattle.clause_text.proofs.Batches.{hands_clause, hands_nothing, next_written, next_long}
-use borrow.Author.Rules.{rules}
 use Rattle.clause_text.proofs.batch.next_line.Goals as goal
-
-pub slice_bounds-next_clause-end : goal.slice_bounds-next_clause-end
-slice_bounds-next_clause-end c = refl
 
 pub next_clause-next-requires : goal.next_clause-next-requires
 next_clause-next-requires c = record { tables = c.requires.tables; extent_of = (c.requires.extent_of, omega arith) }
@@ -21,9 +17,6 @@ slice_bounds-clause-end c = (hands_clause c.next_clause-next.ensures c.if-count-
 
 pub slice_bounds-write_line-end : goal.slice_bounds-write_line-end
 slice_bounds-write_line-end c = sym (length-take-le _ _ (hands_clause c.next_clause-next.ensures c.if-count-eq0.false).room)
-
-pub write_line-end-requires : goal.write_line-end-requires
-write_line-end-requires c = tt
 
 pub returns-then-end-at : goal.returns-then-end-at
 returns-then-end-at c = next_long (hands_clause c.next_clause-next.ensures c.if-count-eq0.false) c.next_clause-next.auto.out c.args.from c.write_line-end.ensures c.if-end-at.true

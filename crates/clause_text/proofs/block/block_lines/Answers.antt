@@ -1,5 +1,4 @@
 -- `block_lines` meets its contract.
-use borrow.Author.Rules.{rules}
 use Rattle.clause_text.proofs.block.block_lines.Goals as goal
 
 pub lines_from-requires : goal.lines_from-requires

@@ -1,13 +1,12 @@
 -- `extension_line` meets its contract.
-use mathlib.Core.Path.{◌≡◌, ◌∙◌}
-use Prim.Native.Nat.{◌+◌, ◌≤◌}
+use mathlib.Core.Path.{◌∙◌}
 use native.Mathlib.Omega.{arith}
 use lib.Bits.{or_lt}
-use lib.ListN.{length, length-set}
+use lib.ListN.{length-set}
 use Rattle.decimal.specs.Writing.{wrote_length}
 use Rattle.clause_words.specs.Pieces.{wrote_two}
 use Rattle.clause_text.specs.Blocks.{head_number, last_number}
-use Rattle.clause_text.proofs.Blocks.{pieces_length, line_written, after_le, number_le}
+use Rattle.clause_text.proofs.Blocks.{pieces_length, line_room, line_written, after_le, number_le}
 use Rattle.clause_text.proofs.block.extension_line.Goals as goal
 
 pub overflow_mul-first : goal.overflow_mul-first
@@ -60,44 +59,32 @@ write_literal-c-requires c =
 
 pub bounds-text-c : goal.bounds-text-c
 bounds-text-c c =
-    let same : length c.write_literal-c.new.text ≡ length c.args.text.now = wrote_length c.write_literal-c.ensures.wrote ∙ wrote_length c.write_middle-b.ensures.wrote ∙ wrote_length c.write_literal-a.ensures.wrote in
-    let room : c.write_literal-c.result + 2 ≤ length c.write_literal-c.new.text = let size = pieces_length c.args.z c.args.x (head_number c.args.z c.args.x c.args.head) (last_number c.args.z c.args.x c.args.last c.args.f) in
-    omega (arith, same, size, c.write_literal-a.ensures.wrote.next, c.write_middle-b.ensures.wrote.next, c.write_literal-c.ensures.wrote.next, c.requires.f_len_bound.0, c.requires.f_len_bound.1) in
+    let (same, room) = line_room c.args.z c.args.x (head_number c.args.z c.args.x c.args.head) (last_number c.args.z c.args.x c.args.last c.args.f) c.write_literal-a.ensures.wrote c.write_middle-b.ensures.wrote c.write_literal-c.ensures.wrote c.requires.f_len_bound.0 c.requires.f_len_bound.1 in
     omega (arith, room)
 
 pub overflow_add-text : goal.overflow_add-text
 overflow_add-text c =
-    let same : length c.write_literal-c.new.text ≡ length c.args.text.now = wrote_length c.write_literal-c.ensures.wrote ∙ wrote_length c.write_middle-b.ensures.wrote ∙ wrote_length c.write_literal-a.ensures.wrote in
-    let room : c.write_literal-c.result + 2 ≤ length c.write_literal-c.new.text = let size = pieces_length c.args.z c.args.x (head_number c.args.z c.args.x c.args.head) (last_number c.args.z c.args.x c.args.last c.args.f) in
-    omega (arith, same, size, c.write_literal-a.ensures.wrote.next, c.write_middle-b.ensures.wrote.next, c.write_literal-c.ensures.wrote.next, c.requires.f_len_bound.0, c.requires.f_len_bound.1) in
+    let (same, room) = line_room c.args.z c.args.x (head_number c.args.z c.args.x c.args.head) (last_number c.args.z c.args.x c.args.last c.args.f) c.write_literal-a.ensures.wrote c.write_middle-b.ensures.wrote c.write_literal-c.ensures.wrote c.requires.f_len_bound.0 c.requires.f_len_bound.1 in
     omega (arith, room, same, c.well_formed)
 
 pub bounds-text-c-2 : goal.bounds-text-c-2
 bounds-text-c-2 c =
-    let same : length c.write_literal-c.new.text ≡ length c.args.text.now = wrote_length c.write_literal-c.ensures.wrote ∙ wrote_length c.write_middle-b.ensures.wrote ∙ wrote_length c.write_literal-a.ensures.wrote in
-    let room : c.write_literal-c.result + 2 ≤ length c.write_literal-c.new.text = let size = pieces_length c.args.z c.args.x (head_number c.args.z c.args.x c.args.head) (last_number c.args.z c.args.x c.args.last c.args.f) in
-    omega (arith, same, size, c.write_literal-a.ensures.wrote.next, c.write_middle-b.ensures.wrote.next, c.write_literal-c.ensures.wrote.next, c.requires.f_len_bound.0, c.requires.f_len_bound.1) in
+    let (same, room) = line_room c.args.z c.args.x (head_number c.args.z c.args.x c.args.head) (last_number c.args.z c.args.x c.args.last c.args.f) c.write_literal-a.ensures.wrote c.write_middle-b.ensures.wrote c.write_literal-c.ensures.wrote c.requires.f_len_bound.0 c.requires.f_len_bound.1 in
     simp length-set (omega (arith, room))
 
 pub overflow_add-result : goal.overflow_add-result
 overflow_add-result c =
-    let same : length c.write_literal-c.new.text ≡ length c.args.text.now = wrote_length c.write_literal-c.ensures.wrote ∙ wrote_length c.write_middle-b.ensures.wrote ∙ wrote_length c.write_literal-a.ensures.wrote in
-    let room : c.write_literal-c.result + 2 ≤ length c.write_literal-c.new.text = let size = pieces_length c.args.z c.args.x (head_number c.args.z c.args.x c.args.head) (last_number c.args.z c.args.x c.args.last c.args.f) in
-    omega (arith, same, size, c.write_literal-a.ensures.wrote.next, c.write_middle-b.ensures.wrote.next, c.write_literal-c.ensures.wrote.next, c.requires.f_len_bound.0, c.requires.f_len_bound.1) in
+    let (same, room) = line_room c.args.z c.args.x (head_number c.args.z c.args.x c.args.head) (last_number c.args.z c.args.x c.args.last c.args.f) c.write_literal-a.ensures.wrote c.write_middle-b.ensures.wrote c.write_literal-c.ensures.wrote c.requires.f_len_bound.0 c.requires.f_len_bound.1 in
     omega (arith, room, same, c.well_formed)
 
 pub shape_of-text : goal.shape_of-text
 shape_of-text c =
-    let same : length c.write_literal-c.new.text ≡ length c.args.text.now = wrote_length c.write_literal-c.ensures.wrote ∙ wrote_length c.write_middle-b.ensures.wrote ∙ wrote_length c.write_literal-a.ensures.wrote in
-    let room : c.write_literal-c.result + 2 ≤ length c.write_literal-c.new.text = let size = pieces_length c.args.z c.args.x (head_number c.args.z c.args.x c.args.head) (last_number c.args.z c.args.x c.args.last c.args.f) in
-    omega (arith, same, size, c.write_literal-a.ensures.wrote.next, c.write_middle-b.ensures.wrote.next, c.write_literal-c.ensures.wrote.next, c.requires.f_len_bound.0, c.requires.f_len_bound.1) in
+    let (same, room) = line_room c.args.z c.args.x (head_number c.args.z c.args.x c.args.head) (last_number c.args.z c.args.x c.args.last c.args.f) c.write_literal-a.ensures.wrote c.write_middle-b.ensures.wrote c.write_literal-c.ensures.wrote c.requires.f_len_bound.0 c.requires.f_len_bound.1 in
     wrote_length (wrote_two c.write_literal-c.new.text _ 48 10 room) ∙ same
 
 pub returns : goal.returns
 returns c =
-    let same : length c.write_literal-c.new.text ≡ length c.args.text.now = wrote_length c.write_literal-c.ensures.wrote ∙ wrote_length c.write_middle-b.ensures.wrote ∙ wrote_length c.write_literal-a.ensures.wrote in
-    let room : c.write_literal-c.result + 2 ≤ length c.write_literal-c.new.text = let size = pieces_length c.args.z c.args.x (head_number c.args.z c.args.x c.args.head) (last_number c.args.z c.args.x c.args.last c.args.f) in
-    omega (arith, same, size, c.write_literal-a.ensures.wrote.next, c.write_middle-b.ensures.wrote.next, c.write_literal-c.ensures.wrote.next, c.requires.f_len_bound.0, c.requires.f_len_bound.1) in
+    let (same, room) = line_room c.args.z c.args.x (head_number c.args.z c.args.x c.args.head) (last_number c.args.z c.args.x c.args.last c.args.f) c.write_literal-a.ensures.wrote c.write_middle-b.ensures.wrote c.write_literal-c.ensures.wrote c.requires.f_len_bound.0 c.requires.f_len_bound.1 in
     record {
       texts_2 = record { heads_kept = c.write_literal-a.ensures.kept_2; middles_kept = c.write_middle-b.ensures.kept_2; lasts_kept = c.write_literal-c.ensures.kept_2 };
       wrote = line_written c.args.z c.args.x (head_number c.args.z c.args.x c.args.head) (last_number c.args.z c.args.x c.args.last c.args.f)

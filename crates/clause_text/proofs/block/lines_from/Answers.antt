@@ -1,14 +1,13 @@
 -- `lines_from` meets its contract. The invariant: the lines on to a position are written, and the first paths and the texts are those of its indices.
 use mathlib.Core.Path.{◌≡◌}
-use Prim.Native.Nat.{◌+◌, ◌-◌, ◌*◌, ◌<◌}
-use borrow.Author.Rules.{rules}
+use Prim.Native.Nat.{◌+◌, ◌*◌, ◌<◌}
 use native.Mathlib.Omega.{arith}
 use lib.ListN.{get_or}
 use Rattle.decimal.specs.Writing.{wrote_length}
 use Rattle.clause_indices.specs.Indices.{extensions, extension_indices}
 use Rattle.clause_order.specs.Passes.{transition_width, state_width}
 use Rattle.clause_order.specs.Stretches.{extensions_le}
-use Rattle.clause_text.proofs.Blocks.{extensions_none, extensions_moved, AtBlock, indices_within, indices_lt, step_lt, path_there, firsts, line_short, line_more, state_failing, letter_failing, skip_more, skip_less}
+use Rattle.clause_text.proofs.Blocks.{extensions_none, extensions_moved, indices_within, indices_lt, path_there, firsts, line_short, line_more, state_failing, letter_failing, skip_more, skip_less}
 use Rattle.clause_text.proofs.block.lines_from.Goals as goal
 
 pub loop-z-init : goal.loop-z-init
@@ -42,9 +41,6 @@ returns-then-text-to-lt-LINE c = record {
   texts_2 = c.loop-z.invariant.texts;
 }
 
-pub past_state-next-requires : goal.past_state-next-requires
-past_state-next-requires c = search rules
-
 pub loop-z-smaller-then-head-eq0 : goal.loop-z-smaller-then-head-eq0
 loop-z-smaller-then-head-eq0 c =
     let here : (c.loop-z.position < extensions c.args.z) × (c.loop-z.x ≡ extension_indices c.args.z c.loop-z.position) = c.loop-z.invariant.here (omega (arith, c.if-v-z.false)) in
@@ -62,12 +58,6 @@ loop-z-preserved-then-head-eq0 c =
     let (h, is) = here in
     let (f, no-clause) = state_failing c.requires.tables h is c.loop-z.invariant.to_p head-is c.if-head-eq0.true in
     skip_more c.requires.tables h is (state_width c.args.z) f no-clause c.loop-z.invariant c.past_state-next.ensures
-
-pub entry-requires : goal.entry-requires
-entry-requires c = search rules
-
-pub number_at-last-requires : goal.number_at-last-requires
-number_at-last-requires c = search rules
 
 pub loop-z-smaller-then-last-eq0 : goal.loop-z-smaller-then-last-eq0
 loop-z-smaller-then-last-eq0 c =
@@ -135,9 +125,6 @@ pub overflow_add-position : goal.overflow_add-position
 overflow_add-position c =
     let here : (c.loop-z.position < extensions c.args.z) × (c.loop-z.x ≡ extension_indices c.args.z c.loop-z.position) = c.loop-z.invariant.here (omega (arith, c.if-v-z.false)) in
     let (h, is) = here in omega (arith, h, extensions_le c.requires.tables.fits)
-
-pub following-x-requires : goal.following-x-requires
-following-x-requires c = tt
 
 pub loop-z-smaller : goal.loop-z-smaller
 loop-z-smaller c =

@@ -1,7 +1,6 @@
 -- `number_at` meets its contract.
 use mathlib.Core.Path.{refl}
 use native.Mathlib.Omega.{arith}
-use borrow.Author.Rules.{rules}
 use Rattle.clause_text.proofs.block.number_at.Goals as goal
 
 pub returns-then-at-ge-STATES : goal.returns-then-at-ge-STATES

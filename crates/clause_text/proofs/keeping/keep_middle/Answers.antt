@@ -1,18 +1,11 @@
 -- `keep_middle` meets its contract.
--- there are some literals, and the buffer holds them
-use Prim.Native.Nat.{◌+◌, ◌-◌, ◌≤◌}
+use Prim.Native.Nat.{◌-◌, ◌≤◌}
 use native.Mathlib.Omega.{arith}
 use lib.ListN.{length, take, drop, length-drop}
 use lib.Seq.{length-take-le}
-use Rattle.decimal.specs.Wrote.{Wrote}
-use Rattle.clause_words.specs.Text.{spaced_text}
-use Rattle.clause_text.specs.Blocks.{middle_of}
 use Rattle.clause_text.proofs.Literals.{middle_read, literals_kept}
 use borrow.Author.Rules.{rules}
 use Rattle.clause_text.proofs.keeping.keep_middle.Goals as goal
-
-pub write_literals-end-requires : goal.write_literals-end-requires
-write_literals-end-requires c = tt
 
 pub returns : goal.returns
 returns c =

@@ -2,7 +2,6 @@
 use mathlib.Core.Path.{refl}
 use native.Mathlib.Omega.{arith}
 use Rattle.clause_text.proofs.Slots.{kept_found, text_kept}
-use borrow.Author.Rules.{rules}
 use Rattle.clause_text.proofs.keeping.literal_in_slot.Goals as goal
 
 pub returns-then-entry-variable : goal.returns-then-entry-variable

@@ -1,8 +1,7 @@
 -- `write_middle` meets its contract.
 use native.Mathlib.Omega.{arith}
-use Rattle.clause_text.proofs.Slots.{found_room, text_copied}
+use Rattle.clause_text.proofs.Slots.{text_copied}
 use Rattle.clause_text.proofs.Literals.{middle_slot_is, letters_le, middle_lt, middle_slot_text}
-use borrow.Author.Rules.{rules}
 use Rattle.clause_text.proofs.keeping.write_middle.Goals as goal
 
 pub overflow_mul-slot : goal.overflow_mul-slot
@@ -20,9 +19,6 @@ overflow_add-end c =
 
 pub slice_bounds-word-count : goal.slice_bounds-word-count
 slice_bounds-word-count c = omega arith
-
-pub word-requires : goal.word-requires
-word-requires c = tt
 
 pub returns : goal.returns
 returns c =
