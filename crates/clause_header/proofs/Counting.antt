@@ -28,7 +28,8 @@ use Rattle.clause_indices.specs.Indices.{ExtentOf, EntryIfAny}
 use Rattle.clause_list.specs.Tables.{StepsWithin, tabled}
 use Rattle.clause_list.specs.Measured.{measured_tables, measured_view}
 use Rattle.clause_header.specs.SharingCount.{shares_by, sharing_count, sharing_is}
-use Rattle.clause_header.specs.ClosureCount.{yes_pairs, pairs_for, closures_from, closures_at, closure_count, closure_length}
+use Rattle.clause_header.specs.ClosureCount.{yes_pairs, pairs_for, closures_from, closures_at, closure_count}
+use Rattle.clause_header.proofs.ClosureLaws.{closure_length}
 
 -- ---- a sum in a loop
 

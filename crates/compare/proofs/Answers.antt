@@ -8,7 +8,7 @@ use Rattle.meaning.specs.Decision.{distinguished}
 use Rattle.automaton.specs.declared.Automaton.{Automaton}
 use Rattle.refusals.specs.declared.Refusal.TheVariants.{Differ}
 use Rattle.compare_shortest.specs.declared.Verdict.{Verdict}
-use Rattle.compare_shortest.specs.declared.Verdict.TheVariants.{Same as None, Differ as Found, Unfit}
+use Rattle.compare_shortest.specs.declared.Verdict.TheVariants.{Same as NoWord, Differ as Found, Unfit}
 use Rattle.compare.specs.declared.Comparison.{Comparison}
 use Rattle.compare.specs.declared.Comparison.TheVariants.{Refused}
 use Rattle.compare.specs.Compared.{Compared, returned}
@@ -16,7 +16,7 @@ use Rattle.compare.specs.Searched.{Ready, Searched, answered}
 
 -- what the search found is the answer
 pub found : {a b : Automaton} {p q l m : List ℕ} → Ready a b (length p) (length l) → (v : Verdict) → Searched a b p q l m v → {r : Comparison} → r ≡ answered v → Compared a b p q l m r
-found R None (agree, ep, el) e = record {
+found R NoWord (agree, ep, el) e = record {
   short_prefix = λ g. absurd (omega (arith, R.prefix_room_fits));
   short_loop = λ _ g. absurd (omega (arith, R.loop_room_fits));
   outside = λ _ _ g. absurd (g (R.valid_a, R.valid_b));

@@ -11,7 +11,7 @@ use Rattle.automaton.specs.Value.{Valid, letters}
 use Rattle.automaton.specs.View.{view}
 use Rattle.automaton.specs.Letters.{letters_le}
 use Rattle.compare_shortest.specs.declared.Verdict.{Verdict}
-use Rattle.compare_shortest.specs.declared.Verdict.TheVariants.{Same as None, Differ as Found, Unfit}
+use Rattle.compare_shortest.specs.declared.Verdict.TheVariants.{Same as NoWord, Differ as Found, Unfit}
 use Rattle.compare_shortest.specs.Difference.{Shows, Fit}
 use Rattle.compare_shortest.specs.Answer.{Answer, Answered, Within}
 use Rattle.compare.specs.declared.Comparison.{Comparison}
@@ -30,13 +30,13 @@ pub record Ready (a b : Automaton) (p l : ℕ) : Type 0 where
 
 -- a verdict of the search as an answer
 abbrev pub answered : Verdict → Comparison
-answered None = Same
+answered NoWord = Same
 answered (Found p l) = Refused (Differ p l)
 answered Unfit = Refused Outside
 
 -- the automata agree, or the first word that shows a difference stands in the front of the two buffers; their tables are never unfit
 abbrev pub Searched : Automaton → Automaton → List ℕ → List ℕ → List ℕ → List ℕ → Verdict → Type 0
-Searched a b prefix prefix-after loop loop-after None = Agree (view a) (view b) × (prefix-after ≡ prefix) × (loop-after ≡ loop)
+Searched a b prefix prefix-after loop loop-after NoWord = Agree (view a) (view b) × (prefix-after ≡ prefix) × (loop-after ≡ loop)
 Searched a b prefix prefix-after loop loop-after (Found p l) =
     (x : List ℕ) × (y : List ℕ) × (length x ≡ p) × (length y ≡ l) × (prefix-after ≡ x ++ drop p prefix) × (loop-after ≡ y ++ drop l loop)
     × FirstWord (view a) (view b) x y
@@ -53,7 +53,7 @@ Handed a b L = Fit a.destinations a.marks b.destinations b.marks L a.start b.sta
 -- from these words to the automata
 module _ {a b : Automaton} {H : List ℕ} (T : Pair a b H) (prefix prefix-after loop loop-after : List ℕ) (hp : prefix_room ≤ length prefix) (hl : loop_room ≤ length loop) where
   by_verdict : (r : Verdict) → Answer (Within (length prefix) (length loop) (Shown a b H)) prefix prefix-after loop loop-after r → Searched a b prefix prefix-after loop loop-after r
-  by_verdict None (none, ep, el) = (⊎_elim (λ agree. agree) (λ (x, y, F). absurd (none x y (fits x y F))) (agree_or_first (comparable T)), ep, el)
+  by_verdict NoWord (none, ep, el) = (⊎_elim (λ agree. agree) (λ (x, y, F). absurd (none x y (fits x y F))) (agree_or_first (comparable T)), ep, el)
     where
       fits : (x y : List ℕ) → FirstWord (view a) (view b) x y → Within (length prefix) (length loop) (Shown a b H) x y
       fits x y F =
