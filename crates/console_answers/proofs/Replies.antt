@@ -4,8 +4,6 @@ use mathlib.Core.Bool.{true, false}
 use mathlib.Core.List.{List, [], ◌∷◌}
 use Prim.Native.Nat.{ℕ}
 use native.Mathlib.Omega.{arith}
-use denote.Enum.Declared.{tag_of, declared}
-use types.Run.{OneOf, miss}
 use Rattle.refusals.specs.declared.Refusal.{Refusal}
 use Rattle.refusals.specs.Refused.{code_of}
 use Rattle.solver_text.specs.declared.Reader.{Reader}
@@ -15,34 +13,21 @@ use Rattle.solver_scan.specs.declared.Place.{Place as Spot}
 use Rattle.solver_scan.specs.declared.Place.TheVariants.{Start, Comment, AfterS, BeforeWord, Word, AfterWord, AfterToken, BeforeToken, AfterMinus, Digits, Ended, BadForm, BadLiteral}
 use Rattle.solver_scan.specs.Scanning.{refused_at}
 use Rattle.solver_text.specs.Machine.{answer_at}
-use Rattle.solver_text.specs.contracts.Answer.{enum}
-use Rattle.decode.specs.declared.Answer.{Answer as Decision}
-use Rattle.decode.specs.declared.Answer.TheVariants.{Table, None, Unknown, Refused as TurnedDown}
-use Rattle.decode.specs.contracts.Answer.{enum as decision}
 use Rattle.console_places.specs.declared.Place.{Place}
 use Rattle.console_places.specs.Places.{after, within}
 use Rattle.console_answers.specs.declared.Heard.{Heard}
-use Rattle.console_answers.specs.SoFar.{heard_of, ended_at}
+use Rattle.console_answers.specs.SoFar.{heard_of}
 
 -- ---- what is held after a reply
 
 module _ (p : Place) (u : List ℕ) (r : Reader) (q : Place) where
-  pub accepted_heard : (w : Answer) → tag_of (declared enum) w ≡ 0 → q ≡ after p u
+  pub accepted_heard : (w : Answer) → w ≡ Accepted → q ≡ after p u
       → Path Heard (record { more = true; whole = true; reader = r; place = q }) (heard_of p u w r)
-  accepted_heard Accepted t e = ap (λ (x : Place). record { more = true; whole = true; reader = r; place = x }) e
-  accepted_heard (Refused x) t e = let z : ◌≡◌ {A = ℕ} 1 0 = t in absurd (omega arith)
+  accepted_heard w t e = ap (λ (x : Place). record { more = true; whole = true; reader = r; place = x }) e ∙ ap (λ w. heard_of p u w r) (sym t)
 
   pub refused_heard : (w : Answer) (x : Refusal) → w ≡ Refused x → q ≡ within p u (code_of x).first
       → Path Heard (record { more = false; whole = true; reader = r; place = q }) (heard_of p u w r)
   refused_heard w x t e = ap (λ (x : Place). record { more = false; whole = true; reader = r; place = x }) e ∙ ap (λ w. heard_of p u w r) (sym t)
-
--- ---- the place at the end of the text
-
-pub decided_place : (w : Decision) (p : Place) (u : List ℕ) → OneOf (0 ∷ 1 ∷ 2 ∷ []) (tag_of (declared decision) w) → p ≡ ended_at w p u
-decided_place Table p u t = refl
-decided_place None p u t = refl
-decided_place Unknown p u t = refl
-decided_place (TurnedDown x) p u t = absurd (miss (0 ∷ 1 ∷ 2 ∷ []) 3 tt t)
 
 -- ---- a refusal, and the offset that a reader carries
 

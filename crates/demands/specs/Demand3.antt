@@ -24,7 +24,6 @@ use Rattle.clause_sizes.specs.Targets.{which, listed, Proper, task, numbers, las
 use Rattle.clause_sizes.specs.Sizes as sizes
 use Rattle.refusals.specs.declared.Refusal.{Refusal}
 use Rattle.refusals.specs.declared.Code.{Code}
-
 use Rattle.clause_header.specs.declared.Totals.{Totals}
 use Rattle.clause_header.specs.declared.Totals.TheVariants.{Of, Refused as NoTotals}
 use Rattle.clause_header.specs.Header.{Headed}

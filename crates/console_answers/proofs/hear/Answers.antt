@@ -1,13 +1,12 @@
 -- `hear` meets its contract.
 use Rattle.console_answers.proofs.Replies.{accepted_heard, refused_heard}
-use borrow.Author.Rules.{rules}
 use Rattle.console_answers.proofs.hear.Goals as goal
 
 pub returns-in-Accepted : goal.returns-in-Accepted
 returns-in-Accepted c = record {
   reply = c.read-reply.result;
   called = c.read-reply.ensures;
-  is = accepted_heard c.args.place c.args.piece.now _ _ c.read-reply.result.answer c.in-Accepted.in-Accepted-own.keys1 c.after.ensures;
+  is = accepted_heard c.args.place c.args.piece.now _ _ c.read-reply.result.answer c.in-Accepted.is c.after.ensures;
 }
 
 pub returns-in-Refused : goal.returns-in-Refused

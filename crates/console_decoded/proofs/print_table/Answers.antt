@@ -16,4 +16,4 @@ returns-in-Text c =
 
 pub returns-in-Refused : goal.returns-in-Refused
 returns-in-Refused c =
-    never_refused (c.valid.ensures.0 (c.if-not-valid.false)) c.print_automaton-written.ensures c.in-Refused.in-Refused-own.keys2
+    never_refused (c.valid.ensures.0 (c.if-not-valid.false)) c.print_automaton-written.ensures c.in-Refused.is

@@ -8,4 +8,3 @@ returns-then-stands-eq-UNSEEN c = rw (eq-eqb _ _ c.if-stands-eq-UNSEEN.true)
 
 pub returns-in-91 : goal.returns-in-91
 returns-in-91 c = rw (ne_eqb _ _ c.if-stands-eq-UNSEEN.false, c.in-91.is)
-

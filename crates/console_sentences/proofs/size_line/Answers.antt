@@ -8,4 +8,3 @@ returns-then-offset-eq65536 c = rw (eq-eqb _ _ c.if-offset-eq65536.true)
 
 pub returns-in-34 : goal.returns-in-34
 returns-in-34 c = rw (ne_eqb _ _ c.if-offset-eq65536.false, c.in-34.is)
-
