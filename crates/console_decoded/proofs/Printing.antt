@@ -55,8 +55,3 @@ module _ (prefix loop : List ℕ) {r : Output} where
         };
     other = λ n. absurd (n p l is);
   }
-
-  -- ---- an answer
-
-  pub answer_handed : (a : Automaton) {w x : Answer} → w ≡ x → HandsAnswer x a prefix loop r → HandsAnswer w a prefix loop r
-  answer_handed a t h = subst (λ w. HandsAnswer w a prefix loop r) (sym t) h

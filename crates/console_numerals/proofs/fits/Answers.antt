@@ -1,6 +1,5 @@
 -- `fits` meets its contract.
 use Rattle.console_numerals.proofs.Parsing.{fits_not, fits_by}
-use borrow.Author.Rules.{rules}
 use Rattle.console_numerals.proofs.fits.Goals as goal
 
 pub returns-then-value-gt1844674407370955161 : goal.returns-then-value-gt1844674407370955161

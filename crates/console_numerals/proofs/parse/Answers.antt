@@ -1,14 +1,7 @@
 -- `parse` meets its contract.
-use mathlib.Core.Path.{◌≡◌, sym, ◌∙◌}
-use mathlib.Core.Bool.{true}
-use Prim.Native.Nat.{◌+◌, ◌*◌, ◌^◌, ◌-◌}
-use lib.Dec.{ltb}
-use borrow.Author.Tests.{not-true, not-false, ltb-true}
-use lib.ListN.{length}
-use native.Mathlib.Omega.{arith}
-use borrow.Author.Rules.{rules}
+use mathlib.Core.Path.{sym, ◌∙◌}
 use Rattle.hoa_text.specs.Numbers.{digit_from}
-use Rattle.console_numerals.proofs.Parsing.{Begun, begin, no_bytes, no_digit, no_room, one_more, whole}
+use Rattle.console_numerals.proofs.Parsing.{begin, no_bytes, no_digit, no_room, whole}
 use Rattle.console_numerals.proofs.parse.Goals as goal
 
 pub returns-then-word-eq0 : goal.returns-then-word-eq0

@@ -1,7 +1,6 @@
 -- `byte_at` meets its contract.
 use native.Mathlib.Omega.{arith}
 use borrow.Author.Tests.{lt-ltb, le-ltb}
-use borrow.Author.Rules.{rules}
 use Rattle.console_places.proofs.byte_at.Goals as goal
 
 pub overflow_cast-result : goal.overflow_cast-result

@@ -1,5 +1,4 @@
 -- `of` meets its contract.
-use borrow.Author.Rules.{rules}
 use Rattle.console_places.proofs.of.Goals as goal
 
 pub returns : goal.returns

@@ -1,9 +1,6 @@
 -- `fill` meets its contract.
-use Prim.Native.Nat.{◌-◌}
-use borrow.Author.Rules.{rules}
-use lib.ListN.{length}
 use Rattle.decimal.specs.Writing.{wrote_length}
-use Rattle.console_sentences.proofs.Filling.{Going, going_first, going_on, ended, all_filled}
+use Rattle.console_sentences.proofs.Filling.{going_first, going_on, ended, all_filled}
 use Rattle.console_sentences.proofs.fill.Goals as goal
 
 pub loop-i-init : goal.loop-i-init

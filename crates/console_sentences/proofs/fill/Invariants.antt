@@ -1,9 +1,7 @@
 -- `fill` meets its contract.
 use Prim.Native.Nat.{◌-◌}
-use borrow.Author.Rules.{rules}
 use lib.ListN.{length}
-use Rattle.decimal.specs.Writing.{wrote_length}
-use Rattle.console_sentences.proofs.Filling.{Going, going_first, going_on, ended, all_filled}
+use Rattle.console_sentences.proofs.Filling.{Going}
 use Rattle.console_sentences.proofs.fill.Given as goal
 
 abbrev pub invariant-loop-i : goal.invariant-loop-i

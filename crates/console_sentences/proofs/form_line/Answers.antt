@@ -1,6 +1,5 @@
 -- `form_line` meets its contract.
-use native.Mathlib.Omega.{arith}
-use borrow.Author.Tests.{eq-eqb, ne_eqb, le-leb, lt-leb}
+use borrow.Author.Tests.{eq-eqb, ne_eqb}
 use Rattle.console_sentences.proofs.form_line.Goals as goal
 
 pub returns-then-stands-eq-UNSEEN : goal.returns-then-stands-eq-UNSEEN

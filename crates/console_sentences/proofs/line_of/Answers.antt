@@ -1,6 +1,5 @@
 -- `line_of` meets its contract.
 use borrow.Author.Tests.{eq-eqb, ne_eqb}
-use borrow.Author.Rules.{rules}
 use Rattle.console_sentences.proofs.line_of.Goals as goal
 
 pub returns-in-1 : goal.returns-in-1

@@ -1,6 +1,5 @@
 -- `sentence` meets its contract.
 use Rattle.console_sentences.proofs.Chosen.{room, said}
-use borrow.Author.Rules.{rules}
 use Rattle.console_sentences.proofs.sentence.Goals as goal
 
 pub returns : goal.returns

@@ -1,6 +1,5 @@
 -- `show` meets its contract.
 use borrow.Author.Tests.{ne_eqb}
-use borrow.Author.Rules.{rules}
 use Rattle.console_sentences.proofs.show.Goals as goal
 
 pub returns-in-64 : goal.returns-in-64

@@ -1,6 +1,5 @@
 -- `size_line` meets its contract.
-use native.Mathlib.Omega.{arith}
-use borrow.Author.Tests.{eq-eqb, ne_eqb, le-leb, lt-leb}
+use borrow.Author.Tests.{eq-eqb, ne_eqb}
 use Rattle.console_sentences.proofs.size_line.Goals as goal
 
 pub returns-then-offset-eq65536 : goal.returns-then-offset-eq65536

@@ -1,9 +1,8 @@
 -- `start` meets its contract.
-use mathlib.Core.Path.{◌≡◌, refl, sym, ap, ◌∙◌}
-use Prim.Native.Nat.{◌+◌, ◌-◌, ◌≤◌}
+use mathlib.Core.Path.{refl, sym, ap, ◌∙◌}
+use Prim.Native.Nat.{◌+◌, ◌-◌}
 use native.Mathlib.Omega.{arith}
-use borrow.Author.Rules.{rules}
-use lib.ListN.{length, drop}
+use lib.ListN.{drop}
 use Rattle.console_sentences.specs.Patterns.{start_of}
 use Rattle.console_sentences.proofs.Lines.{begins, begins_later, begins_last}
 use Rattle.console_sentences.proofs.start.Goals as goal

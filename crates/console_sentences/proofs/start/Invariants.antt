@@ -1,11 +1,8 @@
 -- `start` meets its contract.
-use mathlib.Core.Path.{◌≡◌, refl, sym, ap, ◌∙◌}
-use Prim.Native.Nat.{◌+◌, ◌-◌, ◌≤◌}
-use native.Mathlib.Omega.{arith}
-use borrow.Author.Rules.{rules}
+use mathlib.Core.Path.{◌≡◌}
+use Prim.Native.Nat.{◌-◌, ◌≤◌}
 use lib.ListN.{length, drop}
 use Rattle.console_sentences.specs.Patterns.{start_of}
-use Rattle.console_sentences.proofs.Lines.{begins, begins_later, begins_last}
 use Rattle.console_sentences.proofs.start.Given as goal
 
 abbrev pub invariant-loop-i : goal.invariant-loop-i

@@ -1,5 +1,4 @@
 -- `write_line` meets its contract.
-use borrow.Author.Rules.{rules}
 use Rattle.console_sentences.proofs.write_line.Goals as goal
 
 pub fill-requires : goal.fill-requires

@@ -1,9 +1,8 @@
 -- `Place::after` meets its contract.
-use mathlib.Core.Path.{◌≡◌, refl, sym, ap, ◌∙◌}
-use Prim.Native.Nat.{◌+◌, ◌-◌, ◌≤◌}
+use mathlib.Core.Path.{refl, sym, ap, ◌∙◌}
+use Prim.Native.Nat.{◌+◌}
 use native.Mathlib.Omega.{arith}
-use borrow.Author.Rules.{rules}
-use lib.ListN.{length, drop}
+use lib.ListN.{drop}
 use Rattle.console_places.specs.Places.{after}
 use Rattle.console_places.proofs.Placing.{one_more, all_read}
 use Rattle.console_places.proofs.Place.after.Goals as goal

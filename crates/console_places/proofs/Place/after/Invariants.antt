@@ -1,11 +1,8 @@
 -- `Place::after` meets its contract.
-use mathlib.Core.Path.{◌≡◌, refl, sym, ap, ◌∙◌}
-use Prim.Native.Nat.{◌+◌, ◌-◌, ◌≤◌}
-use native.Mathlib.Omega.{arith}
-use borrow.Author.Rules.{rules}
+use mathlib.Core.Path.{◌≡◌}
+use Prim.Native.Nat.{◌-◌, ◌≤◌}
 use lib.ListN.{length, drop}
 use Rattle.console_places.specs.Places.{after}
-use Rattle.console_places.proofs.Placing.{one_more, all_read}
 use Rattle.console_places.proofs.Place.after.Given as goal
 
 abbrev pub invariant-loop-i : goal.invariant-loop-i

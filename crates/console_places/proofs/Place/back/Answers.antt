@@ -1,5 +1,4 @@
 -- `Place::back` meets its contract.
-use borrow.Author.Rules.{rules}
 use Rattle.console_places.proofs.Place.back.Goals as goal
 
 pub returns : goal.returns

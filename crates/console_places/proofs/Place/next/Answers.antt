@@ -1,6 +1,5 @@
 -- `Place::next` meets its contract.
 use borrow.Author.Tests.{eq-eqb, ne_eqb}
-use borrow.Author.Rules.{rules}
 use Rattle.console_places.proofs.Place.next.Goals as goal
 
 pub returns-then-b-eq10 : goal.returns-then-b-eq10

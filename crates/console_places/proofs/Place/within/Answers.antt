@@ -2,7 +2,6 @@
 use mathlib.Core.Path.{ap, ◌∙◌}
 use borrow.Author.Tests.{lt-ltb, le-ltb}
 use Rattle.console_places.specs.Places.{after}
-use borrow.Author.Rules.{rules}
 use Rattle.console_places.proofs.Place.within.Goals as goal
 
 pub returns-then-offset-self : goal.returns-then-offset-self
