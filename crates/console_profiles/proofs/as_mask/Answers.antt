@@ -1,7 +1,6 @@
 -- `as_mask` meets its contract.
 use native.Mathlib.Omega.{arith}
 use Rattle.console_profiles.proofs.Laws.{mask_past, mask_given}
-use borrow.Author.Rules.{rules}
 use Rattle.console_profiles.proofs.as_mask.Goals as goal
 
 pub returns-then-value-gt65535 : goal.returns-then-value-gt65535

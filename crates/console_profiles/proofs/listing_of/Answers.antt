@@ -1,7 +1,6 @@
 -- `listing_of` meets its contract.
 use mathlib.Core.Path.{sym, ◌∙◌}
 use Rattle.console_profiles.proofs.Laws.{second_named, first_named}
-use borrow.Author.Rules.{rules}
 use Rattle.console_profiles.proofs.listing_of.Goals as goal
 
 pub returns-then-same : goal.returns-then-same

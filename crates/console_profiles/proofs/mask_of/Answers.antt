@@ -1,7 +1,6 @@
 -- `mask_of` meets its contract.
 use mathlib.Core.Path.{sym, ◌∙◌}
 use Rattle.console_profiles.proofs.Laws.{all_named, number_named}
-use borrow.Author.Rules.{rules}
 use Rattle.console_profiles.proofs.mask_of.Goals as goal
 
 pub returns-then-same : goal.returns-then-same

@@ -1,7 +1,6 @@
 -- `named` meets its contract.
 use mathlib.Core.Path.{sym, ap}
 use Rattle.console_profiles.specs.Profiles.{named}
-use borrow.Author.Rules.{rules}
 use Rattle.console_profiles.proofs.named.Goals as goal
 
 pub returns-in-Of : goal.returns-in-Of

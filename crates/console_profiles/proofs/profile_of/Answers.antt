@@ -1,8 +1,6 @@
 -- `profile_of` meets its contract.
 use mathlib.Core.Path.{sym, ◌∙◌}
-use borrow.Author.Tests.{not-true, not-false}
 use Rattle.console_profiles.proofs.Laws.{list_told, other_list, other_marks, profile_named}
-use borrow.Author.Rules.{rules}
 use Rattle.console_profiles.proofs.profile_of.Goals as goal
 
 pub returns-then-not-same : goal.returns-then-not-same
