@@ -1,5 +1,5 @@
 -- What was printed is what the answer asks for.
-use mathlib.Core.Path.{◌≡◌, sym, ap, ap₂, ◌∙◌, subst}
+use mathlib.Core.Path.{◌≡◌, sym, ap, ap₂, ◌∙◌}
 use mathlib.Core.Logic.{inl, inr}
 use mathlib.Core.List.{List}
 use Prim.Native.Nat.{ℕ}
@@ -12,14 +12,13 @@ use Rattle.refusals.specs.Refused.{code_of}
 use Rattle.solver_scan.specs.Cases.{by}
 use Rattle.hoa_write.specs.declared.Written.{Written}
 use Rattle.hoa_write.specs.declared.Written.TheVariants.{Text, Refused as TurnedDown}
-use Rattle.decode.specs.declared.Answer.{Answer}
 use Rattle.console_report.specs.Lines.{refused_line, word_lines}
 use Rattle.console_print.specs.declared.Printed.{Printed}
 use Rattle.console_print.specs.Handed.{Hands}
 use Rattle.hoa_text.specs.Written.{text}
 use Rattle.console_results.specs.Results.{HandsAutomaton}
 use Rattle.console_decoded.specs.declared.Output.{Output}
-use Rattle.console_decoded.specs.Printed.{unworded, Alone, HandsTable, HandsRefused, HandsAnswer}
+use Rattle.console_decoded.specs.Printed.{unworded, Alone, HandsTable, HandsRefused}
 use Rattle.console_decoded.specs.Behind.{HandsBehind}
 
 -- ---- a table

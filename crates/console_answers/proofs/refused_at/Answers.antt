@@ -1,7 +1,6 @@
 -- `refused_at` meets its contract.
 use mathlib.Core.Path.{ap, ◌∙◌}
 use Rattle.console_places.specs.Places.{within}
-use borrow.Author.Rules.{rules}
 use Rattle.console_answers.proofs.refused_at.Goals as goal
 
 pub returns : goal.returns

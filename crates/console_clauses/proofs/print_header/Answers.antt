@@ -3,7 +3,6 @@ use mathlib.Core.Path.{ap, ◌∙◌}
 use native.Mathlib.Omega.{arith}
 use lib.ListN.{length}
 use Rattle.decimal.specs.Writing.{wrote_front}
-use borrow.Author.Rules.{rules}
 use Rattle.console_clauses.proofs.print_header.Goals as goal
 
 pub returns : goal.returns

@@ -4,7 +4,6 @@ use native.Mathlib.Omega.{arith}
 use lib.ListN.{length}
 use lib.Seq.{take_all}
 use Rattle.console_decoded.specs.Printed.{unworded}
-use borrow.Author.Rules.{rules}
 use Rattle.console_decoded.proofs.print_answer.Goals as goal
 
 pub returns : goal.returns

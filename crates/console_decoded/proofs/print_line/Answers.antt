@@ -1,7 +1,6 @@
 -- `print_line` meets its contract.
 use mathlib.Core.Path.{ap, ◌∙◌}
 use Rattle.console_decoded.specs.Printed.{unworded}
-use borrow.Author.Rules.{rules}
 use Rattle.console_decoded.proofs.print_line.Goals as goal
 
 pub returns : goal.returns

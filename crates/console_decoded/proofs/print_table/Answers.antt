@@ -1,9 +1,7 @@
 -- `print_table` meets its contract.
-use borrow.Author.Tests.{not-true, not-false}
 use mathlib.Core.Path.{sym, ◌∙◌}
 use mathlib.Core.Bool.{true≢false}
 use Rattle.console_decoded.proofs.Printing.{outside_handed, text_handed, never_refused}
-use borrow.Author.Rules.{rules}
 use Rattle.console_decoded.proofs.print_table.Goals as goal
 
 pub returns-then-not-valid : goal.returns-then-not-valid

@@ -2,7 +2,6 @@
 use mathlib.Core.Path.{refl}
 use mathlib.Core.Bool.{false≢true}
 use Rattle.console_read.specs.Got.{unopened}
-use borrow.Author.Rules.{rules}
 use Rattle.console_input.proofs.from_argument.Goals as goal
 
 pub returns-then-not-got : goal.returns-then-not-got

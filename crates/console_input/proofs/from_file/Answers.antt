@@ -1,7 +1,6 @@
 -- `from_file` meets its contract.
 use mathlib.Core.Path.{sym, subst}
 use Rattle.console_read.specs.Got.{FileRead}
-use borrow.Author.Rules.{rules}
 use Rattle.console_input.proofs.from_file.Goals as goal
 
 pub returns : goal.returns

@@ -1,7 +1,6 @@
 -- `from_input` meets its contract.
 use mathlib.Core.Path.{sym, subst}
 use Rattle.console_read.specs.Got.{InputRead}
-use borrow.Author.Rules.{rules}
 use Rattle.console_input.proofs.from_input.Goals as goal
 
 pub returns : goal.returns

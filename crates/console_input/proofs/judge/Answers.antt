@@ -6,7 +6,6 @@ use lib.ListN.{take}
 use Rattle.hoa_text.specs.Reading.{read}
 use Rattle.hoa_read.specs.Told.{told}
 use Rattle.console_input.proofs.Judged.{read_given, refused_given}
-use borrow.Author.Rules.{rules}
 use Rattle.console_input.proofs.judge.Goals as goal
 
 pub returns-in-Read : goal.returns-in-Read

@@ -1,6 +1,5 @@
 -- `none` meets its contract.
 use Rattle.console_input.proofs.Judged.{nothing_is}
-use borrow.Author.Rules.{rules}
 use Rattle.console_input.proofs.none.Goals as goal
 
 pub returns : goal.returns
