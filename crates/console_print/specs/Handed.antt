@@ -1,4 +1,4 @@
--- DEFINITION: what is handed over to standard output and standard error. Which bytes reach a file no contract can say: `io::write_all` promises nothing of them. So each
+-- DEFINITION: what is handed over to standard output and standard error. Which bytes reach a file no contract can say: std's `write_all` promises nothing of them. So each
 -- function that prints returns how many bytes it handed over, and names the text that has so many.
 use Rattle.std.specs.Prelude.{◌≡◌, List, [], ◌∷◌, ◌++◌, ℕ, length}
 use Rattle.automaton.specs.Bytes.{bytes}

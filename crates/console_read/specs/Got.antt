@@ -10,12 +10,12 @@ whole k = record { whole = true; length = k }
 abbrev pub cut : ℕ → Got
 cut k = record { whole = false; length = k }
 
--- what a call that is handed n bytes may answer: -1, or how many bytes it moved, at most n
+-- what a call that is handed n bytes may answer: -1, which stands for an error, or how many bytes it moved, at most n
 abbrev pub Moved : ℕ → ℤ → Type 0
 Moved n (pos k) = k ≤ n
 Moved n (negsuc k) = k ≡ 0
 
--- of one call of POSIX's read: "it answers -1, or how many bytes it put at the start of buf, 0 at the end of the input"
+-- of one call of std's `read`: an error, or how many bytes it put at the start of the buffer, 0 at the end of the input
 abbrev pub told : ℤ → Got
 told (pos k) = whole k
 told (negsuc k) = cut 0
@@ -45,7 +45,7 @@ pub data FileRead (size : ℕ) (r : Got) : Type 0 where
   unopened : r ≡ cut 0 → FileRead size r
   opened : InputRead size 0 r → FileRead size r
 
--- an argument: so many bytes of it, and errno, "0 where the whole argument is in buf"
+-- an argument: so many bytes of it, and an error's number, 0 where the whole argument is in the buffer
 pub record ArgumentRead (size : ℕ) (r : Got) : Type 0 where
   pub count : ℕ
   pub there : count ≤ size

@@ -1,27 +1,17 @@
 -- The proof of `Decks`.
-use Rattle.std.specs.Prelude.{◌≡◌, refl, ◌++◌, ◌≤◌}
-use Rattle.std.proofs.Math.Option.{none}
+use Rattle.std.specs.Prelude.{refl}
 use Rattle.meaning.specs.BitSet.{set_of}
-use Rattle.automaton.specs.declared.Automaton.{Automaton}
 use Rattle.refusals.specs.declared.Refusal.TheVariants.{SecondEdge, NoEdge}
-use Rattle.refusals.specs.Refused.{row}
-use Rattle.automaton.specs.Value.{Valid}
-use Rattle.encoding.specs.Clauses.{Satisfies, destination}
-use Rattle.decode.specs.Answers.{found}
-use Rattle.automaton.specs.Bytes.{bytes}
-use Rattle.clause_sizes.specs.declared.Target.{Target}
-use Rattle.clause_sizes.specs.Targets.{every, Proper, last, task, numbers, file}
 use Rattle.hoa_text.specs.Formulas.{deepest}
 use Rattle.hoa_text.specs.Header.{item_read}
 use Rattle.hoa_text.specs.Body.{body_read}
 use Rattle.hoa_text.specs.Reading.{read}
 use Rattle.hoa_text.specs.Examples.{one_state, both_for_ever}
-use Rattle.decks.specs.Words.{ReadAs, HoaTextRefused, Counts, Satisfiable, Prints, Stating, DecodedAs, DecoderRefuses, SolverTextRefused}
 use Rattle.decks.proofs.First.{first_read, first_prints, first_none}
 use Rattle.decks.proofs.AllRuns.{all_runs, all_runs_read, all_runs_counts, all_runs_some, states_satisfying, one_two_decoded, states_no_step, minus_one_decoded, one_three_refused, one_one_refused}
 use Rattle.decks.proofs.Both.{both_read, counts_one_one, none_one_one, counts_two_one, some_two_one, counts_one_two, some_one_two}
 use Rattle.decks.proofs.Largest.{at_most, met, largest, largest_valid}
-use Rattle.decks.specs.Decks.{FirstDeck, AllRuns, BothForEver, LargestSizes, KnownDecks}
+use Rattle.decks.specs.Decks.{KnownDecks}
 
 pub known_decks : KnownDecks
 unfolding read item_read body_read deepest set_of

@@ -1,6 +1,6 @@
 -- The first deck: what is printed for it, and that no assignment satisfies its file.
 use Rattle.std.specs.Prelude.{◌≡◌, refl, List, [], ◌∷◌, ◌++◌, ℕ, negsuc, length}
-use Rattle.std.proofs.Common.{ap₂, ◌∙◌, arith}
+use Rattle.std.proofs.Common.{ap, ap₂, ◌∙◌, arith}
 use Rattle.std.proofs.Math.Bool.{xor}
 use mathlib.Core.List.Memᴰ
 use Rattle.meaning.specs.BitSet.{set_of}
@@ -12,13 +12,7 @@ use Rattle.decimal.specs.Decimal.{decimal}
 use Rattle.clause_sizes.specs.declared.Target.{Target}
 use Rattle.clause_sizes.specs.Limits.{every_proper}
 use Rattle.clause_sizes.specs.Targets.{every, Proper, last, file}
-use Rattle.clause_sizes.specs.Sizes.{Refuses, outside, dimensions, past_sets}
-use Rattle.refusals.specs.declared.Refusal.{Refusal}
-use Rattle.refusals.specs.declared.Code.{Code}
-use Rattle.std.proofs.Math.Option.{Option}
-use Rattle.clause_header.specs.declared.Totals.{Totals}
-use Rattle.clause_header.specs.declared.Totals.TheVariants.{Of, Refused}
-use Rattle.clause_header.specs.Header.{Headed}
+use Rattle.clause_header.proofs.Heading.{header_is}
 use Rattle.clause_words.specs.Text.{lines_text}
 use Rattle.clause_text.specs.LinesOut.{lines_out}
 use Rattle.automaton.specs.Bytes.{bytes}
@@ -37,19 +31,10 @@ module _ {a : Automaton} {τ : Target} (v : Valid a) (d : Proper τ) where
   abbrev counted : List ℕ
   counted = header_line (last a τ) (length (file a τ))
 
-  not_refused : {f : Refusal} {c : Option Code} → Refuses a τ f c → ⊥
-  not_refused (outside w) = w v
-  not_refused (dimensions w e) = e d.dimensioned
-  not_refused (past_sets w e o) = o d.sets_owned
-
-  totals_text : (t : Totals) → Headed a τ t → header_text t ≡ counted
-  totals_text (Of variables clauses) (w, e, (p, q)) = ap₂ header_line p q
-  totals_text (Refused f) h = absurd (not_refused h)
-
   prints : {text : List ℕ} → counted ++ lines_text (file a τ) ≡ text → Prints a τ text
   prints e = record {
     text_is = e;
-    calls = λ t h cs k c i g. ap₂ ◌++◌ (totals_text t h) ((lines_out v d cs k).whole c i g) ∙ e;
+    calls = λ t h cs k c i g. ap₂ ◌++◌ (ap header_text (header_is v d t h)) ((lines_out v d cs k).whole c i g) ∙ e;
   }
 
 -- ---- the deck

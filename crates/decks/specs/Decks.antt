@@ -1,9 +1,7 @@
 -- THE KNOWN DECKS of document 01 that are marked P, as one table under one theorem. Its sentences stand in quotes.
-use Rattle.std.specs.Prelude.{◌≡◌, refl, ◌++◌, ◌≤◌}
+use Rattle.std.specs.Prelude.{◌≡◌, ◌++◌, ◌≤◌}
 use Rattle.std.proofs.Math.Option.{none}
-use Rattle.meaning.specs.BitSet.{set_of}
 use Rattle.automaton.specs.declared.Automaton.{Automaton}
-use Rattle.refusals.specs.declared.Refusal.TheVariants.{SecondEdge, NoEdge}
 use Rattle.refusals.specs.Refused.{row}
 use Rattle.automaton.specs.Value.{Valid}
 use Rattle.encoding.specs.Clauses.{Satisfies, destination}
@@ -11,11 +9,6 @@ use Rattle.decode.specs.Answers.{found}
 use Rattle.automaton.specs.Bytes.{bytes}
 use Rattle.clause_sizes.specs.declared.Target.{Target}
 use Rattle.clause_sizes.specs.Targets.{every, Proper, last, task, numbers, file}
-use Rattle.hoa_text.specs.Formulas.{deepest}
-use Rattle.hoa_text.specs.Header.{item_read}
-use Rattle.hoa_text.specs.Body.{body_read}
-use Rattle.hoa_text.specs.Reading.{read}
-use Rattle.hoa_text.specs.Examples.{one_state, both_for_ever}
 use Rattle.decks.specs.Words.{ReadAs, HoaTextRefused, Counts, Satisfiable, Prints, Stating, DecodedAs, DecoderRefuses, SolverTextRefused}
 
 -- ---- the statement

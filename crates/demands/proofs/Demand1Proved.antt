@@ -1,45 +1,12 @@
 -- The proof of `Demand1`.
-use Rattle.std.specs.Prelude.{◌≡◌, ◌⊎◌, List, ◌++◌, ℕ, ◌≤◌, ℤ, length}
 use Rattle.std.proofs.Common.{ap, ◌∙◌}
-use Rattle.std.proofs.Math.Option.{some}
-use Rattle.automaton.specs.declared.Automaton.{Automaton}
-use Rattle.refusals.specs.declared.Code.{Code}
-use Rattle.automaton.specs.Value.{Valid}
-use Rattle.clause_sizes.specs.declared.Target.{Target}
-use Rattle.clause_sizes.specs.Targets.{Proper, last, kept}
-use Rattle.compare.specs.declared.Comparison.{Comparison}
-use Rattle.compare.specs.Compared.{Compared, prefix_room, loop_room}
+use Rattle.clause_sizes.specs.Targets.{last, kept}
 use Rattle.hoa_text.proofs.ReadBack.{read_back}
-use Rattle.hoa_text.specs.Reading.{read}
-use Rattle.hoa_text.specs.Written.{text}
-use Rattle.clause_indices.specs.Indices.{clause_room}
-use Rattle.hoa_read.specs.declared.Reading.{Reading}
-use Rattle.hoa_read.specs.declared.Answer.TheVariants.{Read}
 use Rattle.hoa_read.specs.Told as hoa
-use Rattle.hoa_write.specs.declared.Written.{Written}
-use Rattle.hoa_write.specs.Answer.{Answered, returned as writer-said}
-use Rattle.clause_header.specs.declared.Totals.{Totals}
-use Rattle.clause_header.specs.Header.{Headed, returned as header-said}
-use Rattle.clause_step.specs.declared.Handed.{Handed}
-use Rattle.clause_step.specs.Step.{line_room, Stepped, returned as step-said}
-use Rattle.clause_line.specs.Line.{LineStepped}
-use Rattle.clause_text.specs.Answers.{BatchStepped}
-use Rattle.solver_text.specs.declared.Reader.{Reader}
-use Rattle.solver_text.specs.declared.Reply.{Reply}
-use Rattle.solver_scan.specs.SolverText.{fault, outcome}
-use Rattle.solver_text.specs.Machine.{told, run, end, fresh}
-use Rattle.solver_text.specs.Calls.{Called, Reads, Ends, InRange, RefusedExactly, joined, returned as solution-said}
+use Rattle.solver_text.specs.Machine.{told}
 use Rattle.solver_agreement.specs.Staying.{refused_run, refused_end}
 use Rattle.solver_agreement.specs.MidText.{piece_refused_exactly}
-use Rattle.decode.specs.declared.Decoded.{Decoded}
-use Rattle.decode.specs.Answers.{Decodes, OfText}
 use Rattle.decode.specs.Texts.{text_answer}
-use Rattle.search_rule.specs.declared.Search.{Search}
-use Rattle.search.specs.declared.Reply as search
-use Rattle.search_rule.specs.Rule as rule
-use Rattle.search.specs.Replies.{Started, Told, Found, returned as search-said}
-use Rattle.demands.specs.Judgement.{Judged}
-use Rattle.demands.specs.Conditions.{to_read, to_write, JudgesComparison, to_count, to_hand_out, JudgesReading, JudgesDecoding, to_start, to_go_on, JudgesFinding}
 use Rattle.demands.proofs.HoaJudged.{reader_judged, reader_valid, writer_judged}
 use Rattle.demands.proofs.ComparisonJudged.{comparison_judged}
 use Rattle.demands.proofs.ClausesJudged.{header_judged, step_judged, line_judged, lines_judged}

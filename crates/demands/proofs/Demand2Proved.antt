@@ -1,5 +1,5 @@
 -- The proof of `Demand2`.
-use Rattle.std.specs.Prelude.{◌≡◌, refl, ◌≢◌, ◌⊎◌, ◌↔◌, List, ℕ, suc, ◌+◌, ◌*◌, ◌≤◌, ◌<◌, length, take, drop}
+use Rattle.std.specs.Prelude.{◌≡◌, refl, ◌⊎◌, ◌↔◌, List, ℕ, length, take, drop}
 use Rattle.std.proofs.Common.{ap, ◌∙◌, inl, inr, take_at}
 use Rattle.meaning.specs.Agreement.{Agree, AgreeEverywhere, Comparable}
 use Rattle.meaning.proofs.AllWords.{agree_everywhere}
@@ -10,26 +10,14 @@ use Rattle.automaton.specs.declared.Automaton.{Automaton}
 use Rattle.automaton.specs.Value.{Valid}
 use Rattle.automaton.specs.View.{view}
 use Rattle.automaton.specs.ViewLaws.{view_comparable}
-use Rattle.clause_sizes.specs.declared.Target.{Target}
 use Rattle.compare.specs.declared.Comparison.{Comparison}
 use Rattle.compare.specs.declared.Comparison.TheVariants.{Same}
-use Rattle.compare.specs.Compared.{Compared, Shown, returned as comparison-said, prefix_room, loop_room}
+use Rattle.compare.specs.Compared.{Compared, returned as comparison-said}
 use Rattle.compare.specs.Bounds.{word_bounds}
-use Rattle.solver_text.specs.declared.Reader.{Reader}
-use Rattle.decode.specs.declared.Decoded.{Decoded}
-use Rattle.decode.specs.Answers.{Decodes}
-use Rattle.search_rule.specs.declared.Search.{Search}
-use Rattle.search.specs.declared.Reply as search
-use Rattle.search.specs.Replies.{Found}
 use Rattle.hoa_text.specs.Reading.{read}
 use Rattle.hoa_text.proofs.ReadBack.{read_back}
 use Rattle.hoa_text.specs.Written.{text}
-use Rattle.hoa_read.specs.declared.Reading.{Reading}
-use Rattle.hoa_read.specs.declared.Answer.TheVariants.{Read}
 use Rattle.hoa_read.specs.Told.{told}
-use Rattle.hoa_write.specs.declared.Written.{Written}
-use Rattle.hoa_write.specs.declared.Written.TheVariants.{Text}
-use Rattle.hoa_write.specs.Answer.{hoa_room, Answered}
 use Rattle.demands.proofs.ComparisonJudged.{comparison_judged}
 use Rattle.demands.proofs.ComparisonOnce.{comparison_once}
 use Rattle.demands.proofs.DecoderOnce.{decoding_once}

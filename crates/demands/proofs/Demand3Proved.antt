@@ -1,41 +1,26 @@
 -- The proof of `Demand3`.
-use Rattle.std.specs.Prelude.{◌≡◌, refl, ◌↔◌, List, ℕ, ◌+◌, ◌*◌, ◌^◌, ◌≤◌, ◌<◌, length}
-use Rattle.std.proofs.Common.{sym, ap, ap₂, subst, arith}
-use Rattle.std.proofs.Math.Option.{Option, none, some}
+use Rattle.std.specs.Prelude.{◌≡◌, refl, ◌↔◌, List, ℕ, ◌≤◌, length}
+use Rattle.std.proofs.Common.{sym, ap, subst, arith}
+use Rattle.std.proofs.Math.Option.{none}
 use Rattle.automaton.specs.declared.Automaton.{Automaton}
-use Rattle.refusals.specs.declared.Refusal.TheVariants.{Short}
-use Rattle.refusals.specs.Refused.{row}
-use Rattle.automaton.specs.Value.{Valid, letters}
+use Rattle.automaton.specs.Value.{Valid}
 use Rattle.automaton.specs.View.{view}
 use Rattle.automaton.specs.ViewLaws.{view_formed}
-use Rattle.encoding.specs.Clauses.{Assignment, Satisfies, group₄}
-use Rattle.encoding.specs.Variables.{step, mark, path, sharing}
+use Rattle.encoding.specs.Clauses.{Assignment, Satisfies}
 use Rattle.encoding.specs.NamedFile.{step_number, mark_number, path_number, named_length, first_sharing}
 use Rattle.encoding.proofs.NamedTheorem.{named_encodes}
 use Rattle.compare.specs.Compared.{prefix_room, loop_room}
 use Rattle.clause_sizes.specs.declared.Listing.{Listing}
-use Rattle.clause_sizes.specs.declared.Listing.TheVariants.{First}
 use Rattle.clause_sizes.specs.declared.Target.{Target}
-use Rattle.clause_sizes.specs.Targets.{which, listed, Proper, task, numbers, last, kept, file, named}
-use Rattle.clause_sizes.specs.Sizes as sizes
-use Rattle.refusals.specs.declared.Refusal.{Refusal}
-use Rattle.refusals.specs.declared.Code.{Code}
-use Rattle.clause_header.specs.declared.Totals.{Totals}
-use Rattle.clause_header.specs.declared.Totals.TheVariants.{Of, Refused as NoTotals}
-use Rattle.clause_header.specs.Header.{Headed}
-use Rattle.clause_step.specs.Step.{fresh_position}
-use Rattle.clause_step.specs.Calls.{Call, Calls, HandsOut}
+use Rattle.clause_sizes.specs.Targets.{which, listed, Proper, last, kept, file, named}
+use Rattle.clause_header.proofs.Heading.{header_is}
 use Rattle.clause_step.specs.HandsOut.{hands_out}
-use Rattle.clause_text.specs.Batches.{TextCall, TextCalls, LinesOut}
 use Rattle.clause_text.specs.LinesOut.{lines_out}
 use Rattle.solver_text.specs.declared.Reader.{Reader}
-use Rattle.solver_text.specs.declared.Reply.{Reply}
 use Rattle.solver_agreement.specs.Assignment.{States}
-use Rattle.solver_text.specs.Machine.{fresh}
-use Rattle.solver_text.specs.Calls.{Reads, Ends, joined}
+use Rattle.solver_text.specs.Calls.{joined}
 use Rattle.decode.specs.declared.Decoded.{Decoded}
-use Rattle.decode.specs.declared.Answer.TheVariants.{Refused}
-use Rattle.decode.specs.Answers.{Untouched, Decodes, found, without}
+use Rattle.decode.specs.Answers.{Untouched, Decodes, found}
 use Rattle.decode.specs.Found.{Found}
 use Rattle.decode.specs.Candidates.{satisfying_steps, satisfying_found, found_decoded, satisfiable as can-be-satisfied}
 use Rattle.decode.specs.Texts.{satisfying_text, satisfying_ended}
@@ -44,15 +29,6 @@ use Rattle.decode.specs.Value.{decoded_same_value}
 use Rattle.demands.specs.Demand3.{Held, Delivers, Demand3, read, ended}
 
 module _ {reference : Automaton} {τ : Target} (v : Valid reference) (d : Proper τ) where
-  not_refused : {f : Refusal} {c : Option Code} → sizes.Refuses reference τ f c → ⊥
-  not_refused (sizes.outside w) = w v
-  not_refused (sizes.dimensions w i) = i d.dimensioned
-  not_refused (sizes.past_sets w i o) = o d.sets_owned
-
-  header_is : (r : Totals) → Headed reference τ r → r ≡ Of (last reference τ) (length (file reference τ))
-  header_is (Of variables clauses) (w, i, (e, f)) = ap₂ Of e f
-  header_is (NoTotals f) h = absurd (not_refused h)
-
   delivered : (ν : Assignment) → Satisfies ν (file reference τ) → (pieces : List (List ℕ)) → States (last reference τ) (kept reference τ) (joined pieces) ν
       → (r : Reader) → Held reference τ pieces r → (prefix prefix-after loop loop-after : List ℕ) (answer : Decoded)
       → Decodes prefix prefix-after loop loop-after answer reference τ r → Delivers (decoded_value reference τ ν) prefix prefix-after loop loop-after answer
@@ -71,7 +47,7 @@ module _ {reference : Automaton} {τ : Target} (v : Valid reference) (d : Proper
   every_field = record {
     clauses = hands_out v d;
     lines = lines_out v d;
-    header = header_is;
+    header = header_is v d;
     count = named_length (view reference) (named τ);
     count_first = λ e. first_sharing (view reference) (named τ) (ap which e);
     first_numbers = λ e. path_number (view reference) (named τ) (ap which e);

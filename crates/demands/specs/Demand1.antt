@@ -4,7 +4,6 @@
 --
 -- One field for each public function. It speaks of every outcome that the function's promise allows; `Conditions` has what each asks, in order.
 use Rattle.std.specs.Prelude.{◌≡◌, ◌⊎◌, List, ◌++◌, ℕ, ◌≤◌, ℤ, length}
-use Rattle.std.proofs.Common.{ap, ◌∙◌}
 use Rattle.std.proofs.Math.Option.{some}
 use Rattle.automaton.specs.declared.Automaton.{Automaton}
 use Rattle.refusals.specs.declared.Code.{Code}
@@ -13,7 +12,6 @@ use Rattle.clause_sizes.specs.declared.Target.{Target}
 use Rattle.clause_sizes.specs.Targets.{Proper, last, kept}
 use Rattle.compare.specs.declared.Comparison.{Comparison}
 use Rattle.compare.specs.Compared.{Compared, prefix_room, loop_room}
-use Rattle.hoa_text.proofs.ReadBack.{read_back}
 use Rattle.hoa_text.specs.Reading.{read}
 use Rattle.hoa_text.specs.Written.{text}
 use Rattle.clause_indices.specs.Indices.{clause_room}
@@ -33,11 +31,8 @@ use Rattle.solver_text.specs.declared.Reply.{Reply}
 use Rattle.solver_scan.specs.SolverText.{fault, outcome}
 use Rattle.solver_text.specs.Machine.{told, run, end, fresh}
 use Rattle.solver_text.specs.Calls.{Called, Reads, Ends, InRange, RefusedExactly, joined, returned as solution-said}
-use Rattle.solver_agreement.specs.Staying.{refused_run, refused_end}
-use Rattle.solver_agreement.specs.MidText.{piece_refused_exactly}
 use Rattle.decode.specs.declared.Decoded.{Decoded}
 use Rattle.decode.specs.Answers.{Decodes, OfText}
-use Rattle.decode.specs.Texts.{text_answer}
 use Rattle.search_rule.specs.declared.Search.{Search}
 use Rattle.search.specs.declared.Reply as search
 use Rattle.search_rule.specs.Rule as rule

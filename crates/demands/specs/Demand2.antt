@@ -1,21 +1,15 @@
 -- DEMAND 2, stated and proved. "Same" exactly if two automata agree on every lasso word, and otherwise the first word that one accepts and the other rejects;
 -- and a written automaton reads back as itself.
-use Rattle.std.specs.Prelude.{◌≡◌, refl, ◌≢◌, ◌⊎◌, ◌↔◌, List, ℕ, suc, ◌+◌, ◌*◌, ◌≤◌, ◌<◌, length, take, drop}
-use Rattle.std.proofs.Common.{ap, ◌∙◌, inl, inr, take_at}
-use Rattle.meaning.specs.Agreement.{Agree, AgreeEverywhere, Comparable}
-use Rattle.meaning.proofs.AllWords.{agree_everywhere}
+use Rattle.std.specs.Prelude.{◌≡◌, ◌≢◌, ◌↔◌, List, ℕ, suc, ◌+◌, ◌*◌, ◌≤◌, ◌<◌, length, take}
+use Rattle.meaning.specs.Agreement.{Agree, AgreeEverywhere}
 use Rattle.meaning.specs.FirstWord.{FirstWord}
-use Rattle.meaning.proofs.FirstWordLaws.{first_word_once, first_word_flip}
-use Rattle.meaning.proofs.FirstWordExists.{agree_or_first}
 use Rattle.automaton.specs.declared.Automaton.{Automaton}
 use Rattle.automaton.specs.Value.{Valid}
 use Rattle.automaton.specs.View.{view}
-use Rattle.automaton.specs.ViewLaws.{view_comparable}
 use Rattle.clause_sizes.specs.declared.Target.{Target}
 use Rattle.compare.specs.declared.Comparison.{Comparison}
 use Rattle.compare.specs.declared.Comparison.TheVariants.{Same}
-use Rattle.compare.specs.Compared.{Compared, Shown, returned as comparison-said, prefix_room, loop_room}
-use Rattle.compare.specs.Bounds.{word_bounds}
+use Rattle.compare.specs.Compared.{Compared, Shown, prefix_room, loop_room}
 use Rattle.solver_text.specs.declared.Reader.{Reader}
 use Rattle.decode.specs.declared.Decoded.{Decoded}
 use Rattle.decode.specs.Answers.{Decodes}
@@ -23,8 +17,6 @@ use Rattle.search_rule.specs.declared.Search.{Search}
 use Rattle.search.specs.declared.Reply as search
 use Rattle.search.specs.Replies.{Found}
 use Rattle.hoa_text.specs.Reading.{read}
-use Rattle.hoa_text.proofs.ReadBack.{read_back}
-use Rattle.hoa_text.specs.Written.{text}
 use Rattle.hoa_read.specs.declared.Reading.{Reading}
 use Rattle.hoa_read.specs.declared.Answer.TheVariants.{Read}
 use Rattle.hoa_read.specs.Told.{told}

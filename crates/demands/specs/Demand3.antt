@@ -3,35 +3,24 @@
 --
 -- Of its clause c, field 1 shuts out a clause step whose first call alone is true and "ended" before clause C, field 2 a C with no list behind it, and fields
 -- 3 to 5 a list of one impossible clause and the same list for every reference.
-use Rattle.std.specs.Prelude.{◌≡◌, refl, ◌↔◌, List, ℕ, ◌+◌, ◌*◌, ◌^◌, ◌≤◌, ◌<◌, length}
-use Rattle.std.proofs.Common.{sym, ap, ap₂, subst, arith}
-use Rattle.std.proofs.Math.Option.{Option, none, some}
+use Rattle.std.specs.Prelude.{◌≡◌, ◌↔◌, List, ℕ, ◌+◌, ◌*◌, ◌^◌, ◌≤◌, ◌<◌, length}
+use Rattle.std.proofs.Math.Option.{none, some}
 use Rattle.automaton.specs.declared.Automaton.{Automaton}
 use Rattle.refusals.specs.declared.Refusal.TheVariants.{Short}
 use Rattle.refusals.specs.Refused.{row}
-use Rattle.automaton.specs.Value.{Valid, letters}
-use Rattle.automaton.specs.View.{view}
-use Rattle.automaton.specs.ViewLaws.{view_formed}
+use Rattle.automaton.specs.Value.{letters}
 use Rattle.encoding.specs.Clauses.{Assignment, Satisfies, group₄}
 use Rattle.encoding.specs.Variables.{step, mark, path, sharing}
-use Rattle.encoding.specs.NamedFile.{step_number, mark_number, path_number, named_length, first_sharing}
-use Rattle.encoding.proofs.NamedTheorem.{named_encodes}
 use Rattle.compare.specs.Compared.{prefix_room, loop_room}
-use Rattle.clause_sizes.specs.declared.Listing.{Listing}
 use Rattle.clause_sizes.specs.declared.Listing.TheVariants.{First}
 use Rattle.clause_sizes.specs.declared.Target.{Target}
-use Rattle.clause_sizes.specs.Targets.{which, listed, Proper, task, numbers, last, kept, file, named}
-use Rattle.clause_sizes.specs.Sizes as sizes
-use Rattle.refusals.specs.declared.Refusal.{Refusal}
-use Rattle.refusals.specs.declared.Code.{Code}
+use Rattle.clause_sizes.specs.Targets.{task, numbers, last, kept, file}
 use Rattle.clause_header.specs.declared.Totals.{Totals}
-use Rattle.clause_header.specs.declared.Totals.TheVariants.{Of, Refused as NoTotals}
+use Rattle.clause_header.specs.declared.Totals.TheVariants.{Of}
 use Rattle.clause_header.specs.Header.{Headed}
 use Rattle.clause_step.specs.Step.{fresh_position}
 use Rattle.clause_step.specs.Calls.{Call, Calls, HandsOut}
-use Rattle.clause_step.specs.HandsOut.{hands_out}
 use Rattle.clause_text.specs.Batches.{TextCall, TextCalls, LinesOut}
-use Rattle.clause_text.specs.LinesOut.{lines_out}
 use Rattle.solver_text.specs.declared.Reader.{Reader}
 use Rattle.solver_text.specs.declared.Reply.{Reply}
 use Rattle.solver_agreement.specs.Assignment.{States}
@@ -41,10 +30,7 @@ use Rattle.decode.specs.declared.Decoded.{Decoded}
 use Rattle.decode.specs.declared.Answer.TheVariants.{Refused}
 use Rattle.decode.specs.Answers.{Untouched, Decodes, found, without}
 use Rattle.decode.specs.Found.{Found}
-use Rattle.decode.specs.Candidates.{satisfying_steps, satisfying_found, found_decoded, satisfiable as can-be-satisfied}
-use Rattle.decode.specs.Texts.{satisfying_text, satisfying_ended}
 use Rattle.decode.specs.Table.{decoded_value}
-use Rattle.decode.specs.Value.{decoded_same_value}
 
 -- ---- the statement
 
