@@ -1,10 +1,10 @@
 -- The test of the names: their lengths, their bytes, and that no two are alike.
-use Rattle.std.specs.Prelude.{◌≡◌, ◌≢◌, true, false, not, ◌&&◌, List, ℕ, ◌+◌, ◌*◌, ◌/◌, ◌%◌, ◌≤◌, ◌<◌, length, get_or, leb, eqb}
+use Rattle.std.specs.Prelude.{◌≡◌, ◌≢◌, ◌↔◌, Bool, true, false, not, ◌&&◌, List, ℕ, ◌+◌, ◌*◌, ◌/◌, ◌%◌, ◌≤◌, ◌<◌, length, get_or, leb, eqb}
 use Rattle.std.proofs.Common.{sym, ap, ◌∙◌, subst, arith, lt-ltb, le-ltb, le-leb, eq-eqb, ne_eqb, leb-true, eqb-true, ext_get_or}
 use Rattle.std.proofs.Math.Decide.{dec_lt}
 use Rattle.std.proofs.lemmas.Bool.{eqb-false, not-true}
 use Rattle.std.proofs.Math.Arith.{digits_div, digits_mod}
-use Rattle.meaning.specs.TestLaws.{and_true, and_left, and_right}
+use Rattle.meaning.specs.TestLaws.{and_true, and_left, and_right, same_truth}
 use Rattle.automaton.specs.Value.{NameByte}
 use Rattle.automaton.specs.Rows.{place}
 use Rattle.automaton.specs.Names.{slot, slot_length, slot_byte, printable_means, means_printable}
@@ -71,6 +71,16 @@ module _ (names : List ℕ) where
 
   alike_of : (i j : ℕ) → ((b : ℕ) → b < 16 → get_or names (i * 16 + b) 0 ≡ get_or names (j * 16 + b) 0) → alike names i j ≡ true
   alike_of i j h = passes_of 16 _ (λ b g. eq-eqb _ _ (h b g))
+
+  -- the test of two whole slots
+  pub alike_slots : {r : Bool} → length names ≡ 64 → (i j : ℕ) → i < 4 → j < 4 → (r ≡ true) ↔ (slot names i 16 ≡ slot names j 16) → r ≡ alike names i j
+  alike_slots size i j hi hj e = same_truth _ _
+      (λ t. alike_of i j (λ b h. sym (slot_byte names i 16 b h) ∙ ap (λ s. get_or s b 0) (e.0 t) ∙ slot_byte names j 16 b h))
+      (λ t. e.1 (ext_get_or 0 (slot names i 16) (slot names j 16) (whole i hi ∙ sym (whole j hj))
+      (λ b h. let g : b < 16 = omega (arith, whole i hi) in slot_byte names i 16 b g ∙ alike_at i j t b g ∙ sym (slot_byte names j 16 b g))))
+    where
+      whole : (i : ℕ) → i < 4 → length (slot names i 16) ≡ 16
+      whole i h = slot_length names size i 16 h (omega arith)
 
   pub apart_at : (k i j : ℕ) → apart names k ≡ true → i < j → j < k → j < 4 → alike names i j ≡ false
   apart_at k i j h hij hjk hj =

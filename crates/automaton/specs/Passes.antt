@@ -1,7 +1,7 @@
 -- What a loop that tests the numbers below n, one after another, knows.
-use Rattle.std.specs.Prelude.{◌≡◌, refl, Bool, true, false, ℕ, ◌+◌, ◌≤◌, ◌<◌}
-use Rattle.std.proofs.Common.{sym, subst, le_antisymm, add-one}
-use Rattle.meaning.specs.TestLaws.{and_true, all_at, all_off}
+use Rattle.std.specs.Prelude.{◌≡◌, refl, ◌↔◌, Bool, true, false, List, ℕ, ◌+◌, ◌≤◌, ◌<◌, length, EachIndex}
+use Rattle.std.proofs.Common.{sym, subst, arith, le_antisymm, add-one}
+use Rattle.meaning.specs.TestLaws.{and_true, same_truth, all_at, all_off}
 use Rattle.meaning.proofs.AllLaws.{all_of}
 use Rattle.automaton.specs.Tests.{passes}
 
@@ -31,3 +31,9 @@ passes_at n p = all_at n p
 pub passes_of : (n : ℕ) (p : ℕ → Bool) → ((i : ℕ) → i < n → p i ≡ true) → passes n p ≡ true
 unfolding passes
 passes_of n p = all_of n p
+
+-- a test that passes if and only if each entry of a list does
+pub passes_each : {r : Bool} (n : ℕ) (p : ℕ → Bool) (xs : List ℕ) → length xs ≡ n → (r ≡ true) ↔ EachIndex xs (λ k. p k ≡ true) → r ≡ passes n p
+passes_each n p xs size e = same_truth _ _
+    (λ t. passes_of n p (λ i h. e.0 t i (omega (arith, size))))
+    (λ t. e.1 (λ i h. passes_at n p t i (omega (arith, size))))

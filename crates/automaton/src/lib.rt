@@ -73,37 +73,24 @@ impl Automaton {
 }
 
 // Counts first, since the tables are read by them.
+#[tactic(auto, unfolding(crate::specs::Tests::fits))]
 fn fits(a: Automaton) -> bool
     ensures { result ≡ fits a }
 {
-    if !counts_fit(a.states, a.start, a.propositions, a.sets) {
-        return false;
-    }
-    if !own_sets(a.acceptance, a.sets) {
-        return false;
-    }
-    if !tables_fit(a) {
-        return false;
-    }
-    let names = a.names;
-    let lengths = a.lengths;
-    naming::named(names, lengths, a.propositions)
+    counts_fit(a.states, a.start, a.propositions, a.sets)
+        && own_sets(a.acceptance, a.sets)
+        && tables_fit(a)
+        && naming::named(a.names, a.lengths, a.propositions)
 }
 
 // The start is a state, so there is one.
 fn counts_fit(states: usize, start: usize, propositions: usize, sets: usize) -> bool
     ensures { result ≡ counts_fit states start propositions sets }
 {
-    if states > Automaton::STATES {
-        return false;
-    }
-    if start >= states {
-        return false;
-    }
-    if propositions > Automaton::PROPOSITIONS {
-        return false;
-    }
-    sets <= Automaton::SETS
+    states <= Automaton::STATES
+        && start < states
+        && propositions <= Automaton::PROPOSITIONS
+        && sets <= Automaton::SETS
 }
 
 // Destinations are states, and marks are sets that there are.
@@ -111,8 +98,6 @@ fn tables_fit(a: Automaton) -> bool
     ensures { result ≡ tables_fit a }
 {
     let letters = power_of_two(a.propositions);
-    if !tables::filled(&a.destinations, a.states, letters, a.states) {
-        return false;
-    }
-    tables::filled(&a.marks, a.states, letters, power_of_two(a.sets))
+    tables::filled(&a.destinations, a.states, letters, a.states)
+        && tables::filled(&a.marks, a.states, letters, power_of_two(a.sets))
 }

@@ -6,14 +6,5 @@ ghost use Rattle.automaton.specs.Value.{printable};
 pub fn printable(byte: u8) -> bool
     ensures { result ≡ printable byte }
 {
-    if byte < 32 {
-        return false;
-    }
-    if byte > 126 {
-        return false;
-    }
-    if byte == 34 {
-        return false;
-    }
-    byte != 92
+    byte >= 32 && byte <= 126 && byte != 34 && byte != 92
 }

@@ -8,24 +8,18 @@ use crate::Automaton;
 pub fn filled(table: &[u8; Automaton::CELLS], states: usize, letters: usize, bound: usize) -> bool
     ensures { result ≡ filled states letters bound table.now }
 {
-    let mut i: usize = 0;
-    while i < Automaton::CELLS {
-        if !entry_fits(i, table[i], states, letters, bound) {
-            return false;
-        }
-        i += 1;
-    }
-    true
+    table
+        .iter()
+        .enumerate()
+        .all(|(i, entry)| entry_fits(i, *entry, states, letters, bound))
 }
 
 fn entry_fits(i: usize, entry: u8, states: usize, letters: usize, bound: usize) -> bool
     ensures { result ≡ entry_fits states letters bound i entry }
 {
-    if i / Automaton::LETTERS >= states {
-        return entry == 0;
+    if i / Automaton::LETTERS < states && i % Automaton::LETTERS < letters {
+        (entry as usize) < bound
+    } else {
+        entry == 0
     }
-    if i % Automaton::LETTERS >= letters {
-        return entry == 0;
-    }
-    (entry as usize) < bound
 }

@@ -3,14 +3,11 @@
 #![tactic(auto)]
 
 use console_input::number;
-use console_numerals::Number;
 use console_places::part::first;
 use console_print::print;
-use console_read::{argument_count, buffer, read_input};
+use console_read::{PATH, argument_count, read_input};
 use console_report::lines::LINE;
-use hoa_read::Answer;
 use pieces::{byte, word};
-use std::num::wrapping_add_u64;
 
 // Bytes of a slot: a text, and line feeds behind it.
 const SLOT: usize = 4096;
@@ -26,18 +23,15 @@ fn main(rt: HostRuntime) {
     if argument_count(rt) != 2 {
         return usage(rt);
     }
-    let mut word = buffer();
-    let argument = number(rt, 1, &mut word);
-    let count = argument.number;
-    let Number::Of(rounds) = count else {
+    let mut word = [0u8; PATH];
+    let Some(rounds) = number(rt, 1, &mut word).number else {
         return usage(rt);
     };
     let mut texts = [0u8; hoa_read::TEXT];
-    let got = read_input(rt, &mut texts);
-    if !got.whole {
+    let Ok(length) = read_input(rt, &mut texts) else {
         return;
-    }
-    tell(rt, read_often(first(&texts, got.length), rounds));
+    };
+    tell(rt, read_often(first(&texts, length), rounds));
 }
 
 fn usage(rt: &HostRuntime) {
@@ -49,10 +43,8 @@ fn read_often(texts: &[u8], rounds: u64) -> Tally {
         accepted: 0,
         states: 0,
     };
-    let mut left = rounds;
-    while left > 0 {
+    for _round in 0..rounds {
         tally = read_slots(texts, tally);
-        left -= 1;
     }
     tally
 }
@@ -60,25 +52,19 @@ fn read_often(texts: &[u8], rounds: u64) -> Tally {
 // Every whole slot once.
 fn read_slots(texts: &[u8], before: Tally) -> Tally {
     let mut tally = before;
-    let mut at: usize = 0;
-    while texts.len() - at >= SLOT {
-        let end = at + SLOT;
-        tally = read_slot(&texts[at..end], tally);
-        at = end;
+    for slot in texts.chunks_exact(SLOT) {
+        tally = read_slot(slot, tally);
     }
     tally
 }
 
 fn read_slot(text: &[u8], before: Tally) -> Tally {
-    let reading = hoa_read::read(text);
-    let answer = reading.answer;
-    let automaton = reading.automaton;
-    match answer {
-        Answer::Read => Tally {
-            accepted: wrapping_add_u64(before.accepted, 1),
-            states: wrapping_add_u64(before.states, automaton.states as u64),
+    match hoa_read::read(text) {
+        Ok(automaton) => Tally {
+            accepted: before.accepted.wrapping_add(1),
+            states: before.states.wrapping_add(automaton.states as u64),
         },
-        Answer::Refused(_) => before,
+        Err(_) => before,
     }
 }
 
@@ -89,5 +75,5 @@ fn tell(rt: &HostRuntime, tally: Tally) {
     at = word(b" states ", &mut line, at);
     at = decimal::write(tally.states, &mut line, at);
     at = byte(b'\n', &mut line, at);
-    print(rt, &line, at);
+    let _ = print(rt, &line, at);
 }

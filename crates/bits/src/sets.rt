@@ -11,14 +11,12 @@ const MEMBERS: usize = 16;
 pub fn lowest(set: u16, count: usize) -> usize
     ensures { Lowest set count result }
 {
-    let mut i: usize = 0;
-    while i < count {
+    for i in 0..count {
         if has(set, i) {
             return i;
         }
-        i += 1;
     }
-    i
+    count
 }
 
 pub fn has(set: u16, i: usize) -> bool

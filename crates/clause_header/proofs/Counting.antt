@@ -1,9 +1,9 @@
 -- The counts of the header.
 use mathlib.Core.Path.{◌≡◌, refl, sym, ap, ap₂, ◌∙◌}
-use mathlib.Core.Bool.{Bool, true, false, ◌&&◌}
+use mathlib.Core.Bool.{true, false}
 use mathlib.Core.List.{List}
 use Prim.Native.Nat.{ℕ, ◌+◌, ◌-◌, ◌*◌, ◌/◌, ◌%◌, ◌^◌, ◌≤◌, ◌<◌}
-use native.Mathlib.Nat.{mul-le-mul, le_antisymm}
+use native.Mathlib.Nat.{mul-le-mul}
 use native.Mathlib.Numerals.{add-one}
 use native.Mathlib.Omega.{arith}
 use lib.ListN.{length}
@@ -19,15 +19,13 @@ use Rattle.encoding.specs.Named.{number_for, file_for}
 use Rattle.clause_sizes.specs.Targets.{named, file}
 use Rattle.clause_sizes.specs.declared.Sizes.{Sizes}
 use Rattle.clause_sizes.specs.Sizes.{Fitting, target_of}
-use Rattle.clause_sizes.specs.Numbers.{kept_among}
 use Rattle.clause_sizes.specs.Limits.{candidate_subsets_le, reference_subsets_le}
 use Rattle.clause_sizes.specs.Measured.{Measured}
-use Rattle.clause_variables.specs.Kept.{KeptIfAny}
 use Rattle.clause_indices.specs.declared.extent.Extent.{Extent}
 use Rattle.clause_indices.specs.Indices.{ExtentOf, EntryIfAny}
 use Rattle.clause_list.specs.Tables.{StepsWithin, tabled}
 use Rattle.clause_list.specs.Measured.{measured_tables, measured_view}
-use Rattle.clause_header.specs.SharingCount.{shares_by, sharing_count, sharing_is}
+use Rattle.clause_header.specs.SharingCount.{sharing_count, sharing_is}
 use Rattle.clause_header.specs.ClosureCount.{yes_pairs, pairs_for, closures_from, closures_at, closure_count}
 use Rattle.clause_header.proofs.ClosureLaws.{closure_length}
 
@@ -40,13 +38,6 @@ total_none h = refl
 pub total_more : (i : ℕ) (h : ℕ → ℕ) {s t : ℕ} → s ≡ total i h → t ≡ h i → s + t ≡ total (i + 1) h
 unfolding total
 total_more i h e q = rw (add-one i) (ap₂ ◌+◌ e q)
-
--- ---- the states u, v and the letter l
-
-pub shares_counted : (z : Sizes) (destinations : List ℕ) {u v l w : ℕ} {a b t : Bool} → (u < 16) × (v < 16) × (l < 16)
-    → EntryIfAny destinations v l w → KeptIfAny z u v a → KeptIfAny z u w b → a && b ≡ t → bit t ≡ shares_by z destinations u v l
-shares_counted z destinations {u} (hu, hv, hl) d x y e =
-    sym (ap bit e) ∙ ap₂ (λ a b. bit (a && b)) (x.there hu) (y.there hu ∙ ap (kept_among z u) (d.there hv hl))
 
 -- ---- the pairs I, K
 
@@ -69,10 +60,8 @@ module _ {z : Sizes} (f : Fitting z) where
   pairs_yes accepted u e = rw e
 
   -- all pairs in a row
-  pub in_a_row : {x c : ℕ} → z.candidate.subsets * z.candidate.subsets ≤ x → x ≤ z.candidate.subsets * z.candidate.subsets
-      → c ≡ total x (yes_at z) → c ≡ yes_pairs z
-  in_a_row {x} {c} g h e =
-      let i : x ≡ z.candidate.subsets * z.candidate.subsets = le_antisymm h g in
+  pub in_a_row : {x c : ℕ} → x ≡ z.candidate.subsets * z.candidate.subsets → c ≡ total x (yes_at z) → c ≡ yes_pairs z
+  in_a_row i e =
       e ∙ ap (λ n. total n (yes_at z)) i
       ∙ ap (λ M. total (M * M) (λ x. bit (has z.candidate.acceptance (x / M ∪ x % M)))) f.candidate_subsets
       ∙ sym (total_total (2 ^ z.candidate.sets) (2 ^ z.candidate.sets) (λ I K. bit (has z.candidate.acceptance (I ∪ K))))

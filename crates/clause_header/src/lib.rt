@@ -16,31 +16,27 @@ use automaton::states::ReferenceState;
 use bits::sets::has;
 use clause_indices::entry;
 use clause_indices::extent::extent_of;
-use clause_sizes::{Sized, Sizes, Target, measure};
+use clause_sizes::{Sizes, Target, measure};
 use clause_variables::kept;
 use refusals::Refusal;
 
+// The numbers of a header: V variables and C clauses.
 #[derive(Clone, Copy)]
-pub enum Totals {
-    // V, then C.
-    Of(u64, u64),
-    Refused(Refusal),
+pub struct Totals {
+    pub variables: u64,
+    pub clauses: u64,
 }
 
 // "p cnf V C": both numbers of the file for the reference and the target.
-pub fn header(reference: Automaton, target: Target) -> Totals
+pub fn header(reference: Automaton, target: Target) -> Result<Totals, Refusal>
     ensures { Headed reference target result }
 {
-    let measured = measure(reference, target);
-    let z = measured.sizes;
-    let answer = measured.answer;
-    match answer {
-        Sized::Of(variables) => {
-            let clauses = clauses_of(reference, z);
-            Totals::Of(variables as u64, clauses as u64)
-        }
-        Sized::Refused(refusal) => Totals::Refused(refusal),
-    }
+    let measured = measure(reference, target)?;
+    let clauses = clauses_of(reference, measured.sizes);
+    Ok(Totals {
+        variables: measured.last as u64,
+        clauses: clauses as u64,
+    })
 }
 
 // C: groups 1 and 2 have a clause at each of their positions, groups 3 and 4 only where the list has the paths of the clause.
@@ -68,13 +64,11 @@ fn sharing(z: Sizes, destinations: &[u8; Automaton::CELLS]) -> usize
     let states = z.reference.states;
     let all = states * states * z.letters;
     let mut count: usize = 0;
-    let mut y: usize = 0;
-    while y < all {
+    for y in 0..all {
         let x = y / z.letters;
         let u = ReferenceState(x / states);
         let v = ReferenceState(x % states);
         count += shares(z, destinations, u, v, y % z.letters);
-        y += 1;
     }
     count
 }
@@ -91,10 +85,7 @@ fn shares(
     ensures { (result ≡ shares_by z destinations.now u.0 v.0 l) × (result ≤ 1) }
 {
     let w = ReferenceState(entry(destinations, v, l));
-    if kept(z, u, v) & kept(z, u, w) {
-        return 1;
-    }
-    0
+    usize::from(kept(z, u, v) & kept(z, u, w))
 }
 
 // The length of group 4 for each q and p, summed over the reference's transitions.
@@ -109,13 +100,11 @@ fn closure_count(
     let transitions = z.reference.states * z.letters;
     let accepted = yes_pairs(z);
     let mut count: usize = 0;
-    let mut y: usize = 0;
-    while y < transitions {
+    for y in 0..transitions {
         let v = ReferenceState(y / z.letters);
         let l = y % z.letters;
         let w = ReferenceState(entry(destinations, v, l));
         count += closures_from(z, accepted, v, w, entry(marks, v, l));
-        y += 1;
     }
     count
 }
@@ -137,10 +126,8 @@ fn closures_by(z: Sizes, accepted: usize, f: usize) -> usize
     ensures { (result ≡ closures_by z accepted f) × (result ≤ 4096) }
 {
     let mut count: usize = 0;
-    let mut j: usize = 0;
-    while j < z.reference.subsets {
+    for j in 0..z.reference.subsets {
         count += pairs_for(z, accepted, j | f);
-        j += 1;
     }
     count
 }
@@ -163,22 +150,9 @@ fn yes_pairs(z: Sizes) -> usize
     ensures { (result ≡ yes_pairs z) × (result ≤ z.candidate.subsets * z.candidate.subsets) }
 {
     let own = z.candidate.subsets;
-    let pairs = own * own;
     let mut count: usize = 0;
-    let mut x: usize = 0;
-    while x < pairs {
-        count += answer(z.candidate.acceptance, x / own | x % own);
-        x += 1;
+    for x in 0..own * own {
+        count += usize::from(has(z.candidate.acceptance, x / own | x % own));
     }
     count
-}
-
-// 1 where an acceptance says yes for a set of marks.
-fn answer(acceptance: u16, marks: usize) -> usize
-    ensures { (result ≡ bit (has acceptance marks)) × (result ≤ 1) }
-{
-    if has(acceptance, marks) {
-        return 1;
-    }
-    0
 }

@@ -1,7 +1,6 @@
 // The indices of a clause; how many positions the groups have, and what groups 3 and 4 have in common.
 #![tactic(auto)]
 
-ghost use Rattle.std.specs.Prelude.{◌≡◌};
 ghost use Rattle.clause_indices.specs.Indices.{EntryIfAny};
 
 use automaton::Automaton;
@@ -37,11 +36,5 @@ pub fn entry(table: &[u8; Automaton::CELLS], u: ReferenceState, l: usize) -> usi
     if l >= Automaton::LETTERS {
         return 0;
     }
-    wide(table[u.0 * Automaton::LETTERS + l])
-}
-
-fn wide(entry: u8) -> usize
-    ensures { result ≡ entry }
-{
-    entry as usize
+    usize::from(table[u.0 * Automaton::LETTERS + l])
 }

@@ -38,20 +38,15 @@ fn within(z: Sizes, x: Indices) -> bool
     requires { Fitting z }
     ensures { (result ≡ true) ↔ Within z x }
 {
-    let q = x.q;
-    let p = x.p;
-    let t = x.t;
-    let u = x.u;
-    let v = x.v;
     let n = z.candidate.states;
     let r = z.reference.states;
     let own = z.candidate.subsets;
     let other = z.reference.subsets;
-    (q.0 < n)
-        & (p.0 < n)
-        & (t.0 < n)
-        & (u.0 < r)
-        & (v.0 < r)
+    (x.q.0 < n)
+        & (x.p.0 < n)
+        & (x.t.0 < n)
+        & (x.u.0 < r)
+        & (x.v.0 < r)
         & (x.l < z.letters)
         & (x.i < own)
         & (x.j < other)
@@ -83,12 +78,11 @@ fn marks(
     requires p_lt_states { (p.0 < z.candidate.states) × (l < z.letters) × (t.0 < z.candidate.states) × (clause_room ≤ length out.old) }
     ensures { Wrote out.old 2 (marks_of z p.0 l t.0 k z.candidate.sets) out.new result }
 {
-    let mut i: usize = 0;
-    while i < z.candidate.sets {
+    let sets = z.candidate.sets;
+    for i in 0..sets {
         out[2 + i] = mark_literal(z, p, l, i, t, k);
-        i += 1;
     }
-    2 + i
+    2 + sets
 }
 
 // "mark(p,l,i,t), negative if i is in K"

@@ -5,7 +5,7 @@ ghost use Rattle.clause_line.specs.Line.{LineStepped};
 
 use automaton::Automaton;
 use clause_sizes::Target;
-use clause_step::{Answer, CLAUSE, Handed, step};
+use clause_step::{CLAUSE, Handed, step};
 use clause_words::write_line;
 use refusals::Refusal;
 
@@ -13,26 +13,27 @@ use refusals::Refusal;
 pub const LINE: usize = 80;
 
 // Writes the line of the next clause of the file for the reference and the target.
-pub fn line(reference: Automaton, target: Target, position: u64, text: &mut [u8]) -> Handed
+pub fn line(
+    reference: Automaton,
+    target: Target,
+    position: u64,
+    text: &mut [u8],
+) -> Result<Handed, Refusal>
     ensures { LineStepped reference target position text.old text.new result }
 {
     let given = text.len();
     if given < LINE {
-        return Handed {
-            answer: Answer::Refused(Refusal::Short(LINE, given)),
-            position,
-        };
+        return Err(Refusal::Short(LINE, given));
     }
     let mut clause = [0i32; CLAUSE];
-    let handed = step(reference, target, position, &mut clause);
+    let handed = step(reference, target, position, &mut clause)?;
     let after = handed.position;
-    let answer = handed.answer;
-    let Answer::Written(count) = answer else {
-        return handed;
+    let Some(count) = handed.written else {
+        return Ok(handed);
     };
     let end = write_line(&clause[..count], text, 0);
-    Handed {
-        answer: Answer::Written(end),
+    Ok(Handed {
+        written: Some(end),
         position: after,
-    }
+    })
 }

@@ -6,6 +6,7 @@ use Prim.Native.Nat.{ℕ, ◌+◌, ◌*◌, ◌/◌, ◌%◌, ◌^◌, ◌<◌}
 use native.Mathlib.Nat.{mod-lt}
 use native.Mathlib.Omega.{arith}
 use lib.ListN.{get_or}
+use Rattle.std.specs.Prelude.{Some, None}
 use lib.IntN.{ℤ}
 use lib.Pow.{pow_pos}
 use Rattle.encoding.specs.Clauses.{◌∪◌, only}
@@ -16,14 +17,13 @@ use Rattle.clause_sizes.specs.Sizes.{Fitting}
 use Rattle.clause_sizes.specs.Numbers.{kept_among}
 use Rattle.clause_variables.specs.Kept.{KeptIfAny}
 use Rattle.clause_indices.specs.declared.Indices.{Indices}
-use Rattle.clause_indices.specs.declared.extent.Extent.{Extent}
 use Rattle.clause_list.specs.declared.digits.Marking.{Marking}
 use Rattle.clause_list.specs.declared.digits.Transition.{Transition}
-use Rattle.clause_indices.specs.Indices.{Within, ExtentIfAny, EntryIfAny, IndicesIfAny, premise_of, successors, extensions, extension_indices, nowhere}
+use Rattle.clause_indices.specs.Indices.{Within, EntryIfAny, premise_of, successors, extension_indices}
 use Rattle.clause_list.specs.Groups.{Successive, successor_of, extension_of}
 use Rattle.clause_list.specs.Tables.{StepsWithin, Tables}
 use Rattle.clause_list.specs.Digits.{MarkingOf, TransitionOf, closure_indices}
-use Rattle.clause_list.specs.Position.{Stands, none, one, successor_at, extension_at, shared_at, extensions_at, closure_at, disagree}
+use Rattle.clause_list.specs.Position.{Stands, successor_at, extension_at, shared_at, extensions_at, closure_at, disagree}
 
 module _ (z : Sizes) where
   -- the indices of groups 3 and 4, from what is left of a position after its sets of marks and its transition
@@ -33,19 +33,6 @@ module _ (z : Sizes) where
     p = record { 0 = rest / z.reference.states / z.candidate.states % z.candidate.states };
     t = record { 0 = rest / z.reference.states % z.candidate.states };
     u = record { 0 = rest % z.reference.states };
-    v = record { 0 = v };
-    l = l;
-    i = i;
-    j = j;
-    k = k;
-  }
-
-  abbrev pub closed : (rest w v l i j k : ℕ) → Indices
-  closed rest w v l i j k = record {
-    q = record { 0 = rest / z.candidate.states };
-    p = record { 0 = rest % z.candidate.states };
-    t = record { 0 = rest / z.candidate.states };
-    u = record { 0 = w };
     v = record { 0 = v };
     l = l;
     i = i;
@@ -65,23 +52,6 @@ module _ {z : Sizes} where
   pub own_some : Fitting z → 0 < z.candidate.subsets
   own_some f = omega (arith, f.candidate_subsets, pow_pos z.candidate.sets)
 
-  pub other_some : Fitting z → 0 < z.reference.subsets
-  other_some f = omega (arith, f.reference_subsets, pow_pos z.reference.sets)
-
-  pub marking_is : {x : ℕ} → Fitting z
-      → MarkingOf z x (record {
-        i = x / z.candidate.subsets / z.reference.subsets % z.candidate.subsets;
-        j = x / z.candidate.subsets % z.reference.subsets;
-        k = x % z.candidate.subsets;
-        rest = x / z.candidate.subsets / z.reference.subsets / z.candidate.subsets;
-      })
-  marking_is f = record {
-    i_is = rw (f.candidate_subsets, f.reference_subsets);
-    j_is = rw (f.candidate_subsets, f.reference_subsets);
-    k_is = rw f.candidate_subsets;
-    rest_is = rw (f.candidate_subsets, f.reference_subsets);
-  }
-
   pub transition_lt : {x : ℕ} {a : Transition} → Fitting z → TransitionOf z x a → (a.v.0 < 16) × (a.l < 16)
   transition_lt {x} f e =
       (omega (arith, e.v_is, mod-lt (x / z.letters) f.r_some, f.r_le), omega (arith, e.l_is, mod-lt x f.letters_some, f.letters_le))
@@ -99,15 +69,6 @@ module _ {z : Sizes} where
       extended z ((e.rest_is ∙ ap (λ y. y / z.letters / z.reference.states) s.rest_is) t)
       ((e.v_is ∙ ap (λ y. y / z.letters % z.reference.states) s.rest_is) t)
       ((e.l_is ∙ ap (λ y. y % z.letters) s.rest_is) t) (s.i_is t) (s.j_is t) (s.k_is t)
-
-  pub closure_is : {a : Marking} {b : Transition} {w : ℕ} (x : ℕ) (destinations : List ℕ) → MarkingOf z x a → TransitionOf z a.rest b
-      → w ≡ get_or destinations (b.v.0 * 16 + b.l) 0
-      → closed z b.rest w b.v.0 b.l a.i a.j a.k ≡ closure_indices z destinations x
-  closure_is x destinations s e d t =
-      let v = e.v_is ∙ ap (λ y. y / z.letters % z.reference.states) s.rest_is in
-      let l = e.l_is ∙ ap (λ y. y % z.letters) s.rest_is in
-      closed z ((e.rest_is ∙ ap (λ y. y / z.letters / z.reference.states) s.rest_is) t) ((d ∙ ap₂ (λ v l. get_or destinations (v * 16 + l) 0) v l) t)
-      (v t) (l t) (s.i_is t) (s.j_is t) (s.k_is t)
 
   -- ---- group 2
 
@@ -137,12 +98,6 @@ module _ {z : Sizes} where
 
   -- ---- group 3
 
-  pub third_lt : {x : ℕ} {g : Extent} → Fitting z → ExtentIfAny z g → x < g.third → x < extensions z
-  third_lt f e h = omega (arith, (e.there f).third_is)
-
-  pub no_indices : {x : ℕ} {r : Indices} → ¬ (Fitting z × (x < extensions z)) → r ≡ nowhere → IndicesIfAny z x r
-  no_indices n e = record { there = λ f h. absurd (n (f, h)); none = λ _. e }
-
   pub indices_lt : {x : Indices} → Fitting z → Within z x → (x.v.0 < 16) × (x.l < 16)
   indices_lt f w = (omega (arith, w.v_lt, f.r_le), omega (arith, w.l_lt, f.letters_le))
 
@@ -168,18 +123,18 @@ module _ (z : Sizes) (destinations marks : List ℕ) where
       ∙ ap (λ (i : Indices). kept_among z i.u.0 i.v.0 && kept_among z i.u.0 (get_or destinations (i.v.0 * 16 + i.l) 0)) q
 
   pub extension_none : {w : ℕ} {i : Indices} {b c : Bool} {d : List ℤ} (x : ℕ) → i ≡ extension_indices z x → w ≡ get_or destinations (i.v.0 * 16 + i.l) 0
-      → b ≡ kept_among z i.u.0 i.v.0 → c ≡ kept_among z i.u.0 w → (b && c) ≡ false → Stands d (extensions_at z destinations marks x) d 0
+      → b ≡ kept_among z i.u.0 i.v.0 → c ≡ kept_among z i.u.0 w → (b && c) ≡ false → Stands d (extensions_at z destinations marks x) d None
   unfolding only
-  extension_none x q p k l t = none (ap (λ b. only b (extension_at z destinations marks x)) (sym (shared_is x q p k l) ∙ t)) refl refl
+  extension_none x q p k l t = (ap (λ b. only b (extension_at z destinations marks x)) (sym (shared_is x q p k l) ∙ t), refl)
 
   pub extension_stands : {w f : ℕ} {i : Indices} {b c : Bool} {d e : List ℤ} {r : ℕ} (x : ℕ) → i ≡ extension_indices z x
       → w ≡ get_or destinations (i.v.0 * 16 + i.l) 0 → f ≡ get_or marks (i.v.0 * 16 + i.l) 0
       → b ≡ kept_among z i.u.0 i.v.0 → c ≡ kept_among z i.u.0 w → (b && c) ≡ true
-      → Wrote d 0 (extension_of z i w f) e r → Stands d (extensions_at z destinations marks x) e r
+      → Wrote d 0 (extension_of z i w f) e r → Stands d (extensions_at z destinations marks x) e (Some r)
   unfolding only
   extension_stands x q p s k l t h =
       let w = extension_written x q p s h in
-      one (extension_at z destinations marks x) (ap (λ b. only b (extension_at z destinations marks x)) (sym (shared_is x q p k l) ∙ t)) w (omega (arith, w.next))
+      record { clause = extension_at z destinations marks x; alone = ap (λ b. only b (extension_at z destinations marks x)) (sym (shared_is x q p k l) ∙ t); wrote = w; some = omega (arith, w.next) }
 
   -- ---- group 4
 
@@ -190,11 +145,11 @@ module _ (z : Sizes) (destinations marks : List ℕ) where
         ap₂ (λ b f. only (b && disagree z (i.i ∪ i.k) (i.j ∪ f)) (premise_of z i)) k p
         ∙ ap (λ (i : Indices). only (kept_among z i.u.0 i.v.0 && disagree z (i.i ∪ i.k) (i.j ∪ get_or marks (i.v.0 * 16 + i.l) 0)) (premise_of z i)) q
 
-    pub closure_none : {d : List ℤ} → (b && disagree z (i.i ∪ i.k) (i.j ∪ f)) ≡ false → Stands d (closure_at z destinations marks x) d 0
+    pub closure_none : {d : List ℤ} → (b && disagree z (i.i ∪ i.k) (i.j ∪ f)) ≡ false → Stands d (closure_at z destinations marks x) d None
     unfolding only
-    closure_none t = none (sym closure_test ∙ ap (λ b. only b (premise_of z i)) t) refl refl
+    closure_none t = (sym closure_test ∙ ap (λ b. only b (premise_of z i)) t, refl)
 
     pub closure_written : {d e : List ℤ} {r : ℕ} → (b && disagree z (i.i ∪ i.k) (i.j ∪ f)) ≡ true → Wrote d 0 (premise_of z i) e r
-        → Stands d (closure_at z destinations marks x) e r
+        → Stands d (closure_at z destinations marks x) e (Some r)
     unfolding only
-    closure_written t w = one (premise_of z i) (sym closure_test ∙ ap (λ b. only b (premise_of z i)) t) w (omega (arith, w.next))
+    closure_written t w = record { clause = premise_of z i; alone = sym closure_test ∙ ap (λ b. only b (premise_of z i)) t; wrote = w; some = omega (arith, w.next) }

@@ -1,5 +1,5 @@
 -- What stands at a position, by group, and that it is what stands there in the file.
-use Rattle.std.specs.Prelude.{◌≡◌, Bool, List, [], ◌∷◌, ℕ, ◌+◌, ◌*◌, ◌/◌, ◌%◌, ◌^◌, ◌<◌, ℤ}
+use Rattle.std.specs.Prelude.{◌≡◌, Bool, List, [], ◌∷◌, ℕ, ◌+◌, ◌*◌, ◌/◌, ◌%◌, ◌^◌, ◌<◌, ℤ, Option, Some, None}
 use Rattle.std.proofs.Math.Path.{refl, ap, ap₂}
 use Rattle.std.proofs.Common.{sym, ◌∙◌}
 use Rattle.std.proofs.Math.Bool.{◌&&◌, xor}
@@ -18,14 +18,21 @@ use Rattle.clause_list.specs.Groups.{totality_of, initial_of, successor_of, exte
 use Rattle.clause_indices.specs.Indices.{premise_of, extensions, closures, extension_indices}
 use Rattle.clause_list.specs.Digits.{closure_indices, extension_within, closure_within}
 
--- the one clause of `cs` is written at the start of d, and r is its length; or `cs` is empty, nothing is written, and r is 0
-pub data Stands {A : Type 0} (d : List A) (cs : List (List A)) (e : List A) (r : ℕ) : Type 0 where
-  one : (c : List A) → cs ≡ c ∷ [] → Wrote d 0 c e r → 0 < r → Stands d cs e r
-  none : cs ≡ [] → e ≡ d → r ≡ 0 → Stands d cs e r
+-- the one clause of `cs` is written at the start of d, and k is its length, which is not 0
+pub record Alone {A : Type 0} (d : List A) (cs : List (List A)) (e : List A) (k : ℕ) : Type 0 where
+  pub clause : List A
+  pub alone : cs ≡ clause ∷ []
+  pub wrote : Wrote d 0 clause e k
+  pub some : 0 < k
 
-pub stands_same : {A : Type 0} {d e : List A} {cs ds : List (List A)} {r : ℕ} → cs ≡ ds → Stands d ds e r → Stands d cs e r
-stands_same q (one c p w h) = one c (q ∙ p) w h
-stands_same q (none p w h) = none (q ∙ p) w h
+-- that, and the length is handed out; or `cs` is empty, and nothing is written
+abbrev pub Stands : {A : Type 0} → List A → List (List A) → List A → Option ℕ → Type 0
+Stands d cs e (Some k) = Alone d cs e k
+Stands d cs e None = (cs ≡ []) × (e ≡ d)
+
+pub stands_same : {A : Type 0} (d e : List A) {cs ds : List (List A)} (r : Option ℕ) → cs ≡ ds → Stands d ds e r → Stands d cs e r
+stands_same d e (Some k) q a = record { clause = a.clause; alone = q ∙ a.alone; wrote = a.wrote; some = a.some }
+stands_same d e None q (p, w) = (q ∙ p, w)
 
 -- ---- by group
 

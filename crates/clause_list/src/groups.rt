@@ -20,12 +20,11 @@ pub fn totality(z: Sizes, q: CandidateState, l: usize, out: &mut [i32]) -> usize
     requires q_lt_states { (q.0 < z.candidate.states) × (l < z.letters) × (clause_room ≤ length out.old) }
     ensures { Wrote out.old 0 (totality_of z q.0 l z.candidate.states) out.new result }
 {
-    let mut p: usize = 0;
-    while p < z.candidate.states {
+    let n = z.candidate.states;
+    for p in 0..n {
         out[p] = positive(step_variable(z, q, l, CandidateState(p)));
-        p += 1;
     }
-    p
+    n
 }
 
 // Group 2, its first clause.

@@ -13,10 +13,10 @@ use automaton::states::ReferenceState;
 use clause_indices::extent::Extent;
 use clause_sizes::Sizes;
 
-// How many literals the clause has, 0 where there is none any more; and the position to go on from.
+// How many literals the clause has, or None where there is no clause any more; and the position to go on from.
 #[derive(Clone, Copy)]
 pub struct Next {
-    pub length: usize,
+    pub length: Option<usize>,
     pub position: usize,
 }
 
@@ -36,17 +36,16 @@ pub fn next_clause(
 {
     let mut x = from;
     while x < g.all {
-        let length = clause_at(z, g, start, destinations, marks, x, out);
-        if length > 0 {
+        if let Some(length) = clause_at(z, g, start, destinations, marks, x, out) {
             return Next {
-                length,
+                length: Some(length),
                 position: x + 1,
             };
         }
         x = after(z, g, destinations, x);
     }
     Next {
-        length: 0,
+        length: None,
         position: x,
     }
 }

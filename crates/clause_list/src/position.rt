@@ -20,7 +20,7 @@ use clause_indices::{Indices, entry};
 use clause_sizes::Sizes;
 use clause_variables::kept;
 
-// Writes the clause at position x, where there is one, and returns how many literals it has; else nothing, and 0.
+// Writes the clause at position x, where there is one, and returns how many literals it has; else writes nothing.
 pub fn clause_at(
     z: Sizes,
     g: Extent,
@@ -29,20 +29,20 @@ pub fn clause_at(
     marks: &[u8; Automaton::CELLS],
     x: usize,
     out: &mut [i32],
-) -> usize
+) -> Option<usize>
     requires tables { Tables z destinations.now marks.now × (start.0 < z.reference.states) }
     requires extent_of { ExtentOf z g × (x < g.all) × (clause_room ≤ length out.old) }
     ensures { Stands out.old (at_position (task_of z start.0 destinations.now marks.now) (number_of z) x) out.new result }
 {
     if x < g.first {
-        return totality(z, CandidateState(x / z.letters), x % z.letters, out);
+        return Some(totality(z, CandidateState(x / z.letters), x % z.letters, out));
     }
     let y = x - g.first;
     if y < g.second {
         if y < 1 {
-            return initial(z, start, out);
+            return Some(initial(z, start, out));
         }
-        return successor_at(z, destinations, y - 1, out);
+        return Some(successor_at(z, destinations, y - 1, out));
     }
     let t = y - g.second;
     if t < g.third {
@@ -72,7 +72,7 @@ fn extension_at(
     marks: &[u8; Automaton::CELLS],
     x: usize,
     out: &mut [i32],
-) -> usize
+) -> Option<usize>
     requires tables { Tables z destinations.now marks.now }
     requires x_bound { (x < extensions z) × (clause_room ≤ length out.old) }
     ensures { Stands out.old (extensions_at z destinations.now marks.now x) out.new result }
@@ -82,10 +82,10 @@ fn extension_at(
     let v = indices.v;
     let w = ReferenceState(entry(destinations, v, indices.l));
     if !(kept(z, u, v) & kept(z, u, w)) {
-        return 0;
+        return None;
     }
     let f = entry(marks, v, indices.l);
-    extension(z, indices, w, f, out)
+    Some(extension(z, indices, w, f, out))
 }
 
 // Group 4.
@@ -95,7 +95,7 @@ fn closure_at(
     marks: &[u8; Automaton::CELLS],
     x: usize,
     out: &mut [i32],
-) -> usize
+) -> Option<usize>
     requires tables { Tables z destinations.now marks.now }
     requires x_bound { (x < closures z) × (clause_room ≤ length out.old) }
     ensures { Stands out.old (closure_at z destinations.now marks.now x) out.new result }
@@ -105,9 +105,9 @@ fn closure_at(
     let v = indices.v;
     let f = entry(marks, v, indices.l);
     if !(kept(z, w, v) & disagree(z, indices.i | indices.k, indices.j | f)) {
-        return 0;
+        return None;
     }
-    premise(z, indices, out)
+    Some(premise(z, indices, out))
 }
 
 // Of position x of group 4.

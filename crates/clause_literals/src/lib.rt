@@ -4,24 +4,15 @@
 ghost use Rattle.std.specs.Prelude.{pos, neg_ℤ};
 ghost use Rattle.clause_literals.specs.Literals.{LiteralIfAny};
 
-// The largest variable that a signed 32-bit literal can name.
-const LARGEST: usize = 2147483647;
-
-// The literal, or 0, which is none, where the variable is past the largest.
+// The literal, or 0, which is none, where 32 bits do not hold the variable and a sign.
 pub fn positive(variable: usize) -> i32
     ensures { LiteralIfAny variable (pos variable) result }
 {
-    if variable > LARGEST {
-        return 0;
-    }
-    variable as i32
+    i32::try_from(variable).unwrap_or(0)
 }
 
 pub fn negative(variable: usize) -> i32
     ensures { LiteralIfAny variable (neg_ℤ (pos variable)) result }
 {
-    if variable > LARGEST {
-        return 0;
-    }
-    -(variable as i32)
+    -positive(variable)
 }

@@ -1,8 +1,8 @@
 -- Past a stretch of positions: the number of the first position after it, and its indices.
-use Rattle.std.proofs.Common.{◌≡◌, ℕ, ◌+◌, ◌-◌, ◌*◌, ◌/◌, ◌%◌, ◌^◌, ◌<◌, ◌≤◌, Bool, true, false, ◌&&◌, ◌||◌, eqb, ltb, sym, refl, ap, ◌∙◌, subst, true≢false, le_refl, mod-eq_of_lt, mul-le-mul, div-add-mod', mul-one, arith, pow_pos, ltb-false, le-ltb, eqb-true}
+use Rattle.std.proofs.Common.{◌≡◌, ℕ, ◌+◌, ◌-◌, ◌*◌, ◌/◌, ◌%◌, ◌^◌, ◌<◌, ◌≤◌, Bool, true, false, ◌&&◌, ◌||◌, eqb, ltb, sym, refl, ap, ◌∙◌, subst, true≢false, le_refl, mod-eq_of_lt, mul-le-mul, div-add-mod', mul-one, arith, pow_pos, le-ltb, eqb-true}
 use native.Mathlib.Nat.{div-div-eq-div-mul, mul-mod_left}
 use lib.Arith.{digits_lt, digits_div}
-use Rattle.meaning.specs.TestLaws.{and_left, and_right, or_false}
+use Rattle.meaning.specs.TestLaws.{and_left, and_right}
 use Rattle.encoding.specs.Numbering.{split}
 use Rattle.clause_sizes.specs.declared.Sizes.{Sizes}
 use Rattle.clause_sizes.specs.Sizes.{Fitting}
@@ -18,12 +18,6 @@ use Rattle.clause_order.proofs.Carries.{at_sets, indices_with_sets, sets_indices
 -- the test of the sizes
 abbrev pub Small : ℕ → ℕ → ℕ → Type 0
 Small a b l = (a ≤ 16) × (b ≤ 16) × (l ≤ 16)
-
-pub sizes_in : (a b l : ℕ) → ((ltb 16 a || ltb 16 b) || ltb 16 l) ≡ false → Small a b l
-sizes_in a b l e =
-    let (both, r) = or_false (ltb 16 a || ltb 16 b) (ltb 16 l) e in
-    let (p, q) = or_false (ltb 16 a) (ltb 16 b) both in
-    (ltb-false 16 a p, ltb-false 16 b q, ltb-false 16 l r)
 
 pub sizes_out : (a b l : ℕ) → ((ltb 16 a || ltb 16 b) || ltb 16 l) ≡ true → ¬ Small a b l
 sizes_out a b l e (p, q, r) =

@@ -1,12 +1,13 @@
 // The order of the positions of group 3 by blocks: over a block q, p, t and u stay.
 #![tactic(auto)]
 
+ghost use Rattle.std.specs.Prelude.{◌≡◌};
 ghost use Rattle.clause_order.specs.Follows.{Follows};
+ghost use Rattle.clause_order.specs.Stretches.{next_state};
 
 use automaton::states::ReferenceState;
 use clause_indices::Indices;
 use clause_sizes::Sizes;
-use std::num::wrapping_add_usize;
 
 pub mod passing;
 
@@ -14,32 +15,41 @@ pub mod passing;
 pub fn following(z: Sizes, x: Indices) -> Indices
     ensures { Follows z x result }
 {
-    let mut y = x;
-    let k = wrapping_add_usize(x.k, 1);
+    let k = x.k.wrapping_add(1);
     if k < z.candidate.subsets {
-        y.k = k;
-        return y;
+        return Indices { k, ..x };
     }
-    y.k = 0;
-    let j = wrapping_add_usize(x.j, 1);
+    let j = x.j.wrapping_add(1);
     if j < z.reference.subsets {
-        y.j = j;
-        return y;
+        return Indices { j, k: 0, ..x };
     }
-    y.j = 0;
-    let i = wrapping_add_usize(x.i, 1);
+    let i = x.i.wrapping_add(1);
     if i < z.candidate.subsets {
-        y.i = i;
-        return y;
+        return Indices { i, j: 0, k: 0, ..x };
     }
-    y.i = 0;
-    let l = wrapping_add_usize(x.l, 1);
+    let l = x.l.wrapping_add(1);
     if l < z.letters {
-        y.l = l;
-        return y;
+        return Indices {
+            l,
+            i: 0,
+            j: 0,
+            k: 0,
+            ..x
+        };
     }
-    y.l = 0;
-    let v = ReferenceState(wrapping_add_usize(x.v.0, 1));
-    y.v = v;
-    y
+    next_state(x)
+}
+
+// The next v, from its first letter and sets on.
+fn next_state(x: Indices) -> Indices
+    ensures { result ≡ next_state x }
+{
+    Indices {
+        v: ReferenceState(x.v.0.wrapping_add(1)),
+        l: 0,
+        i: 0,
+        j: 0,
+        k: 0,
+        ..x
+    }
 }

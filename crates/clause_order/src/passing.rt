@@ -2,11 +2,10 @@
 ghost use Rattle.clause_order.specs.Passes.{Passes, transition_width, state_width};
 ghost use Rattle.clause_order.specs.Stretches.{PastOf};
 
+use crate::next_state;
 use automaton::Automaton;
-use automaton::states::ReferenceState;
 use clause_indices::Indices;
 use clause_sizes::Sizes;
-use std::num::wrapping_add_usize;
 
 // The sets of marks that there are at most.
 const MARKINGS: usize = 1 << Automaton::SETS;
@@ -22,25 +21,23 @@ pub struct Place {
 pub fn past_letter(z: Sizes, x: Indices, position: usize) -> Place
     ensures { Passes z (transition_width z) x position result }
 {
-    let mut y = x;
-    y.k = 0;
-    y.j = 0;
-    y.i = 0;
-    let l = wrapping_add_usize(x.l, 1);
     let first = (x.i == 0) & (x.j == 0) & (x.k == 0);
     let after = past(z, 1, first, position);
+    let l = x.l.wrapping_add(1);
     if l < z.letters {
-        y.l = l;
         return Place {
-            indices: y,
+            indices: Indices {
+                l,
+                i: 0,
+                j: 0,
+                k: 0,
+                ..x
+            },
             position: after,
         };
     }
-    y.l = 0;
-    let v = ReferenceState(wrapping_add_usize(x.v.0, 1));
-    y.v = v;
     Place {
-        indices: y,
+        indices: next_state(x),
         position: after,
     }
 }
@@ -49,16 +46,9 @@ pub fn past_letter(z: Sizes, x: Indices, position: usize) -> Place
 pub fn past_state(z: Sizes, x: Indices, position: usize) -> Place
     ensures { Passes z (state_width z) x position result }
 {
-    let mut y = x;
-    y.k = 0;
-    y.j = 0;
-    y.i = 0;
-    y.l = 0;
-    let v = ReferenceState(wrapping_add_usize(x.v.0, 1));
-    y.v = v;
     let first = (x.l == 0) & (x.i == 0) & (x.j == 0) & (x.k == 0);
     Place {
-        indices: y,
+        indices: next_state(x),
         position: past(z, z.letters, first, position),
     }
 }
@@ -77,7 +67,7 @@ fn past(z: Sizes, letters: usize, first: bool, position: usize) -> usize
         return position;
     }
     if first {
-        return wrapping_add_usize(position, width);
+        return position.wrapping_add(width);
     }
-    wrapping_add_usize(position - position % width, width)
+    (position - position % width).wrapping_add(width)
 }

@@ -4,14 +4,13 @@ use mathlib.Core.List.{List}
 use Prim.Native.Nat.{ℕ, ◌+◌, ◌-◌, ◌*◌, ◌%◌, ◌^◌, ◌≤◌, ◌<◌, min}
 use native.Mathlib.Numerals.{add-one}
 use native.Mathlib.Omega.{arith}
-use borrow.Author.Tests.{lt-ltb, le-ltb}
 use lib.ListN.{length, get_or, set}
 use Rattle.meaning.specs.BitSet.{has}
 use Rattle.meaning.specs.Counting.{total}
 use Rattle.meaning.specs.CountingLaws.{Filled, filled_none, filled_more}
 use Rattle.meaning.specs.Totals.{how_many_le}
 use Rattle.bits.specs.Members.{shift_is}
-use Rattle.clause_rows.specs.Rows.{full_set, full_row, held}
+use Rattle.clause_rows.specs.Rows.{full_set, held}
 
 -- ---- full sets
 
@@ -20,12 +19,6 @@ full_low k h = let e : k ≡ min k 16 = omega arith in ap (λ x. x - 1) (shift_i
 
 pub full_all : (k : ℕ) → 16 ≤ k → 65535 ≡ full_set k
 full_all k h = let e : 16 ≡ min k 16 = omega arith in ap (λ j. 2 ^ j - 1) e
-
-pub row_in : (states u : ℕ) {x : ℕ} → u < states → x ≡ full_set states → x ≡ full_row states u
-row_in states u h e = rw (lt-ltb u states h) e
-
-pub row_out : (states u : ℕ) → states ≤ u → 0 ≡ full_row states u
-row_out states u h = rw (le-ltb u states h)
 
 -- ---- sums
 

@@ -1,20 +1,16 @@
--- The sizes as the code makes them, and the answers beside them.
-use mathlib.Core.Path.{◌≡◌, refl, sym, ap, ◌∙◌, subst}
-use mathlib.Core.Option.{some}
+-- The sizes as the code makes them.
+use mathlib.Core.Path.{◌≡◌, sym, ap, ◌∙◌, subst}
 use mathlib.Core.List.{List}
 use Prim.Native.Nat.{ℕ, ◌+◌, ◌*◌, ◌^◌, ◌≤◌, min}
 use Rattle.bits.specs.Powers.{power_is}
 use Rattle.automaton.specs.declared.Automaton.{Automaton}
 use Rattle.automaton.specs.Value.{Valid}
-use Rattle.refusals.specs.declared.Refusal.{Refusal}
-use Rattle.refusals.specs.Refused.{code_of}
 use Rattle.clause_rows.specs.declared.Rows.{Rows}
 use Rattle.clause_rows.specs.Rows.{rows_of}
 use Rattle.clause_sizes.specs.declared.Target.{Target}
 use Rattle.clause_sizes.specs.declared.Sizes.{Sizes}
-use Rattle.clause_sizes.specs.declared.Measurement.{Measurement}
 use Rattle.clause_sizes.specs.Targets.{Proper, last}
-use Rattle.clause_sizes.specs.Sizes.{Refuses, Fitting, Sizing, kept_sets, measured, sizes_of, refusing}
+use Rattle.clause_sizes.specs.Sizes.{Fitting, kept_sets, measured, sizes_of}
 use Rattle.clause_sizes.specs.Numbers.{LastIfAny, last_variable}
 use Rattle.clause_sizes.specs.Limits.{sizes_fit, file_variables}
 
@@ -32,9 +28,6 @@ pub measured_is : {τ : Target} {states sets acceptance propositions L M S : ℕ
     })
     (measured τ states sets acceptance propositions paths)
 measured_is hm hs hp eL eM eS = rw (power_is hp eL, power_is hm eM, power_is hs eS)
-
-pub turned_down : {a : Automaton} {τ : Target} {f : Refusal} {r : Measurement} → r ≡ refusing f → Refuses a τ f (some (code_of f)) → Sizing a τ r.sizes r.answer
-turned_down {a} {τ} e h = subst (λ (r : Measurement). Sizing a τ r.sizes r.answer) (sym e) (h, refl)
 
 pub fits_so : {a : Automaton} {τ : Target} {sets : List ℕ} {paths : Rows} {z : Sizes} {k : ℕ} → Valid a → Proper τ → sets ≡ kept_sets a τ.listing → paths ≡ rows_of sets
     → z ≡ measured τ a.states a.sets a.acceptance a.propositions paths → LastIfAny z k → Valid a × Proper τ × (z ≡ sizes_of a τ) × (k ≡ last a τ)

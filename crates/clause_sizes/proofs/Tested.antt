@@ -1,13 +1,12 @@
--- The test of sizes: it passes if and only if a file can have them.
+-- The test of counts: it passes if and only if a file can have them.
 use mathlib.Core.Path.{◌≡◌, sym, ◌∙◌}
 use mathlib.Core.Logic.{◌↔◌}
 use mathlib.Core.Bool.{true, ◌&&◌}
-use Prim.Native.Nat.{ℕ, ◌^◌, ◌≤◌, min}
+use Prim.Native.Nat.{ℕ, ◌^◌, min}
 use lib.Dec.{leb, eqb}
 use Rattle.bits.specs.Powers.{power_is}
 use Rattle.clause_sizes.specs.declared.Counts.{Counts}
-use Rattle.clause_sizes.specs.declared.Sizes.{Sizes}
-use Rattle.clause_sizes.specs.Sizes.{Fitting, Counting}
+use Rattle.clause_sizes.specs.Sizes.{Counting}
 use Rattle.clause_sizes.specs.Conjunctions.{both, at_most, equal}
 
 pub counting_test : (c : Counts) (most : ℕ) {p : ℕ} → p ≡ 2 ^ min c.sets 4
@@ -17,13 +16,3 @@ counting_test c most {p} e =
       λ h. let (((a, b), d), g) = t.0 h in record { some = a; states_le = b; sets_le = d; subsets_is = g ∙ power_is d e },
       λ k. t.1 (((k.some, k.states_le), k.sets_le), k.subsets_is ∙ sym (power_is k.sets_le e)),
     )
-
-module _ (z : Sizes) where
-  pub fitting_candidate : Fitting z → Counting 8 z.candidate
-  fitting_candidate f = record { some = f.n_some; states_le = f.n_le; sets_le = f.m_le; subsets_is = f.candidate_subsets }
-
-  pub fitting_reference : Fitting z → Counting 16 z.reference
-  fitting_reference f = record { some = f.r_some; states_le = f.r_le; sets_le = f.s_le; subsets_is = f.reference_subsets }
-
-  pub letters_test : ((leb 1 z.letters && leb z.letters 16) ≡ true) ↔ ((1 ≤ z.letters) × (z.letters ≤ 16))
-  letters_test = both (at_most 1 z.letters) (at_most z.letters 16)

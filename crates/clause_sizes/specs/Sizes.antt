@@ -1,5 +1,5 @@
 -- DEFINITIONS: the sizes of a clause file, as the code carries them, and for which reference and target there is a file.
-use Rattle.std.specs.Prelude.{◌≡◌, cond, List, ℕ, ◌+◌, ◌*◌, ◌^◌, ◌≤◌, ltb, replicate}
+use Rattle.std.specs.Prelude.{◌≡◌, cond, List, ℕ, ◌+◌, ◌*◌, ◌^◌, ◌≤◌, ltb, Result, Ok, Err}
 use Rattle.std.proofs.Math.Option.{Option, none, some}
 use Rattle.meaning.specs.BitSet.{set_of}
 use Rattle.acceptance.specs.Masks.{OwnSets}
@@ -14,12 +14,9 @@ use Rattle.encoding.specs.Named.{kept_by}
 use Rattle.clause_rows.specs.declared.Rows.{Rows}
 use Rattle.clause_rows.specs.Rows.{rows_of}
 use Rattle.clause_sizes.specs.declared.Listing.{Listing}
-use Rattle.clause_sizes.specs.declared.Listing.TheVariants.{First}
 use Rattle.clause_sizes.specs.declared.Target.{Target}
 use Rattle.clause_sizes.specs.declared.Counts.{Counts}
 use Rattle.clause_sizes.specs.declared.Sizes.{Sizes}
-use Rattle.clause_sizes.specs.declared.Sized.{Sized}
-use Rattle.clause_sizes.specs.declared.Sized.TheVariants.{Of, Refused}
 use Rattle.clause_sizes.specs.declared.Measurement.{Measurement}
 use Rattle.clause_sizes.specs.Targets.{Dimensioned, Proper, which, last}
 
@@ -57,33 +54,15 @@ sizes_of a τ = measured τ a.states a.sets a.acceptance a.propositions (rows_of
 abbrev pub target_of : Sizes → Target
 target_of z = record { states = z.candidate.states; sets = z.candidate.sets; acceptance = z.candidate.acceptance; listing = z.listing }
 
--- no sizes, where something is turned down
-abbrev pub no_counts : Counts
-no_counts = record { states = 0; sets = 0; subsets = 0; acceptance = 0 }
+-- "Returned (number, a, b)": what is returned, or none where nothing is turned down
+abbrev pub returned : Result Measurement Refusal → Option Code
+returned (Ok y) = none
+returned (Err f) = some (code_of f)
 
-abbrev pub no_sizes : Sizes
-no_sizes = record {
-  candidate = no_counts;
-  reference = no_counts;
-  letters = 0;
-  steps = 0;
-  marks = 0;
-  listing = First;
-  paths = record { sets = replicate 16 0; before = replicate 16 0; pairs = 0 };
-}
-
-abbrev pub refusing : Refusal → Measurement
-refusing f = record { answer = Refused f; sizes = no_sizes }
-
--- "Returned (number, a, b)": what an answer returns, or none where nothing is turned down
-abbrev pub returned : Sized → Option Code
-returned (Of k) = none
-returned (Refused f) = some (code_of f)
-
--- what the answer, with the sizes z beside it, says of the reference and the target
-abbrev pub Sizing : Automaton → Target → Sizes → Sized → Type 0
-Sizing a τ z (Of k) = Valid a × Proper τ × (z ≡ sizes_of a τ) × (k ≡ last a τ)
-Sizing a τ z (Refused f) = Refuses a τ f (returned (Refused f)) × (z ≡ no_sizes)
+-- what the answer says of the reference and the target
+abbrev pub Sizing : Automaton → Target → Result Measurement Refusal → Type 0
+Sizing a τ (Ok y) = Valid a × Proper τ × (y.sizes ≡ sizes_of a τ) × (y.last ≡ last a τ)
+Sizing a τ (Err f) = Refuses a τ f (returned (Err f))
 
 -- sizes that a file can have
 pub record Fitting (z : Sizes) : Type 0 where

@@ -4,7 +4,7 @@
 ghost use Rattle.std.specs.Prelude.{◌≡◌, ◌↔◌, true, ◌≤◌};
 ghost use Rattle.automaton.specs.Value.{Valid};
 ghost use Rattle.clause_sizes.specs.Targets.{Dimensioned, every, listed};
-ghost use Rattle.clause_sizes.specs.Sizes.{Counting, Fitting, Sizing, kept_sets, measured, refusing};
+ghost use Rattle.clause_sizes.specs.Sizes.{Counting, Fitting, Sizing, kept_sets, measured};
 ghost use Rattle.clause_sizes.specs.Numbers.{LastIfAny};
 
 use acceptance::{every_set, own_sets};
@@ -49,12 +49,7 @@ impl Target {
     pub fn listed(self, listing: Listing) -> Target
         ensures { result ≡ listed self listing }
     {
-        Target {
-            states: self.states,
-            sets: self.sets,
-            acceptance: self.acceptance,
-            listing,
-        }
+        Target { listing, ..self }
     }
 }
 
@@ -80,32 +75,25 @@ pub struct Sizes {
     pub paths: Rows,
 }
 
-// V, the number of the last variable, where there is a file.
-#[derive(Clone, Copy)]
-pub enum Sized {
-    Of(usize),
-    Refused(Refusal),
-}
-
-// The answer, and the sizes of the file beside it, since an enum holds no array; where there is no file they are all 0.
+// Of a file: V, the number of its last variable, and its sizes.
 #[derive(Clone, Copy)]
 pub struct Measurement {
-    pub answer: Sized,
+    pub last: usize,
     pub sizes: Sizes,
 }
 
 // The sizes of the file for a reference and a target, where there is one.
-pub fn measure(reference: Automaton, target: Target) -> Measurement
-    ensures { Sizing reference target result.sizes result.answer }
+pub fn measure(reference: Automaton, target: Target) -> Result<Measurement, Refusal>
+    ensures { Sizing reference target result }
 {
     if !reference.valid() {
-        return refused(Refusal::Outside);
+        return Err(Refusal::Outside);
     }
     if !dimensioned(target) {
-        return refused(Refusal::Dimensions(target.states, target.sets));
+        return Err(Refusal::Dimensions(target.states, target.sets));
     }
     if !own_sets(target.acceptance, target.sets) {
-        return refused(Refusal::Outside);
+        return Err(Refusal::Outside);
     }
     let listing = target.listing;
     let paths = rows_with(kept_sets(reference, listing));
@@ -117,37 +105,10 @@ pub fn measure(reference: Automaton, target: Target) -> Measurement
         reference.propositions,
         paths,
     );
-    Measurement {
-        answer: Sized::Of(last_variable(sizes)),
+    Ok(Measurement {
+        last: last_variable(sizes),
         sizes,
-    }
-}
-
-fn refused(refusal: Refusal) -> Measurement
-    ensures { result ≡ refusing refusal }
-{
-    let none = Counts {
-        states: 0,
-        sets: 0,
-        subsets: 0,
-        acceptance: 0,
-    };
-    Measurement {
-        answer: Sized::Refused(refusal),
-        sizes: Sizes {
-            candidate: none,
-            reference: none,
-            letters: 0,
-            steps: 0,
-            marks: 0,
-            listing: Listing::First,
-            paths: Rows {
-                sets: [0u16; Automaton::STATES],
-                before: [0u8; Automaton::STATES],
-                pairs: 0,
-            },
-        },
-    }
+    })
 }
 
 // For each reference state the set of those that it has path variables to.

@@ -1,9 +1,9 @@
 -- THE CLAUSE STEP HANDS OUT THE FILE, over every list of calls from the fresh position.
-use Rattle.std.specs.Prelude.{◌≡◌, refl, List, [], ◌∷◌, ◌++◌, ℕ, suc, ◌≤◌, ℤ, length}
+use Rattle.std.specs.Prelude.{◌≡◌, refl, List, [], ◌∷◌, ◌++◌, ℕ, suc, ◌≤◌, ℤ, length, Option, Some, None, Result, Ok, Err}
 use Rattle.std.proofs.Common.{sym, ap, ap₂, ◌∙◌, subst, arith}
-use Rattle.std.proofs.Math.Option.{Option, none, some}
 use Rattle.automaton.specs.declared.Automaton.{Automaton}
 use Rattle.automaton.specs.Value.{Valid}
+use Rattle.refusals.specs.declared.Refusal.{Refusal}
 use Rattle.encoding.specs.Variables.{Task, Var}
 use Rattle.decimal.specs.Writing.{wrote_front}
 use Rattle.clause_sizes.specs.declared.Target.{Target}
@@ -11,11 +11,10 @@ use Rattle.clause_sizes.specs.Targets.{Proper, task, numbers}
 use Rattle.clause_list.specs.Next.{Found, clauses_from}
 use Rattle.clause_indices.specs.Indices.{clause_room}
 use Rattle.clause_list.specs.Following.{First, next_first, from_start, position_of}
-use Rattle.clause_step.specs.declared.Answer.{Answer}
-use Rattle.clause_step.specs.declared.Answer.TheVariants.{Written, Ended, Refused}
-use Rattle.clause_step.specs.Step.{StepAnswers, found_from, fresh_position, last_position}
+use Rattle.clause_step.specs.declared.Handed.{Handed}
+use Rattle.clause_step.specs.Step.{Stepped, StepFound, position_after, found_from, fresh_position, last_position}
 use Rattle.clause_step.specs.Range.{stays_in_range}
-use Rattle.clause_step.specs.Calls.{Call, Calls, said, all_said, in_order, HandsOut}
+use Rattle.clause_step.specs.Calls.{Call, Calls, literals, said, all_said, in_order, HandsOut}
 use Rattle.clause_step.specs.Refusals.{turned_down_short, Stays, refused_from}
 
 module _ (a : Automaton) (τ : Target) where
@@ -32,28 +31,34 @@ module _ (a : Automaton) (τ : Target) where
   first_is x e = subst (First T num (rest x)) e (next_first T num x)
 
   -- one answer, and the answers after it
-  one_more : (x : ℕ) (b : Answer) (y : ℕ) (d e : List ℤ) (later : List (Option (List ℤ))) → StepAnswers a τ x d e b y
-      → later ≡ in_order (rest y) (length later) → said b e ++ later ≡ in_order (rest x) (length (said b e ++ later))
-  one_more x (Written k) y d e later (ok, (c, f, w)) ih =
-      ap₂ (λ c l. some c ∷ l) (wrote_front w) ih ∙ ap (λ cs. in_order cs (suc (length later))) (sym (first_is x f))
-  one_more x Ended y d e later (ok, (f, w)) ih =
+  one_found : (x : ℕ) (b : Option ℕ) (y : ℕ) (d e : List ℤ) (later : List (Option (List ℤ))) → StepFound a τ x d e b y
+      → later ≡ in_order (rest y) (length later) → literals b e ∷ later ≡ in_order (rest x) (suc (length later))
+  one_found x (Some k) y d e later (c, f, w) ih =
+      ap₂ (λ c l. Some c ∷ l) (wrote_front w) ih ∙ ap (λ cs. in_order cs (suc (length later))) (sym (first_is x f))
+  one_found x None y d e later (f, w) ih =
       let (now-none, then-none) = first_is x f in
-      ap (λ l. none ∷ l) (ih ∙ ap (λ cs. in_order cs (length later)) then-none) ∙ ap (λ cs. in_order cs (suc (length later))) (sym now-none)
-  one_more x (Refused f) y d e later (t, p, w) ih = ih ∙ ap (λ k. in_order (rest k) (length later)) p
+      ap (λ l. None ∷ l) (ih ∙ ap (λ cs. in_order cs (length later)) then-none) ∙ ap (λ cs. in_order cs (suc (length later))) (sym now-none)
+
+  one_more : (x : ℕ) (r : Result Handed Refusal) (d e : List ℤ) (later : List (Option (List ℤ))) → Stepped a τ x d e r
+      → later ≡ in_order (rest (position_after x r)) (length later) → said r e ++ later ≡ in_order (rest x) (length (said r e ++ later))
+  one_more x (Ok h) d e later (ok, f) ih = one_found x h.written h.position d e later f ih
+  one_more x (Err f) d e later (t, w) ih = ih
 
   answers_from : (x : ℕ) (cs : List Call) → Calls a τ x cs → all_said cs ≡ in_order (rest x) (length (all_said cs))
   answers_from x [] k = refl
-  answers_from x (c ∷ cs) (e, s, k) =
-      one_more x c.result.answer c.result.position c.before c.after (all_said cs) s (answers_from c.result.position cs k)
+  answers_from x (c ∷ cs) (e, s, k) = one_more x c.result c.before c.after (all_said cs) s (answers_from (position_after x c.result) cs k)
 
   -- one call, for the lemma on refusals
-  stays : Valid a → Proper τ → (x : ℕ) (d e : List ℤ) (b : Answer) (y : ℕ) → x ≤ last_position → StepAnswers a τ x d e b y → Stays clause_room x d e b y
-  stays v i x d e (Written k) y h (ok, (c, f, w)) = subst (λ f. position_of T num f ≤ last_position) f (stays_in_range v i x h)
-  stays v i x d e Ended y h (ok, (f, w)) = subst (λ f. position_of T num f ≤ last_position) f (stays_in_range v i x h)
-  stays v i x d e (Refused f) y h (t, p, w) = (turned_down_short v i h t, p, w)
+  found_stays : Valid a → Proper τ → (x : ℕ) (d e : List ℤ) (b : Option ℕ) (y : ℕ) → x ≤ last_position → StepFound a τ x d e b y → y ≤ last_position
+  found_stays v i x d e (Some k) y h (c, f, w) = subst (λ f. position_of T num f ≤ last_position) f (stays_in_range v i x h)
+  found_stays v i x d e None y h (f, w) = subst (λ f. position_of T num f ≤ last_position) f (stays_in_range v i x h)
+
+  stays : Valid a → Proper τ → (x : ℕ) (d e : List ℤ) (r : Result Handed Refusal) → x ≤ last_position → Stepped a τ x d e r → Stays clause_room x d e r
+  stays v i x d e (Ok r) h (ok, f) = found_stays v i x d e r.written r.position h f
+  stays v i x d e (Err f) h (t, w) = (turned_down_short v i h t, w)
 
 pub hands_out : {a : Automaton} {τ : Target} → Valid a → Proper τ → (cs : List Call) → Calls a τ fresh_position cs → HandsOut a τ cs
 hands_out {a} {τ} v i cs k = record {
   answers = answers_from a τ fresh_position cs k ∙ ap (λ l. in_order l (length (all_said cs))) (from_start (task a τ) (numbers a τ));
-  refused = refused_from (λ x d e r. stays a τ v i x d e r.answer r.position) fresh_position cs (omega arith) k;
+  refused = refused_from (stays a τ v i) fresh_position cs (omega arith) k;
 }

@@ -1,6 +1,7 @@
 -- DEFINITIONS: what a call of the clause step answers and leaves in the buffer, for the reference a and the target τ at position x, on all input.
-use Rattle.std.specs.Prelude.{◌≡◌, List, ℕ, ◌≤◌, ◌<◌, ℤ, length}
-use Rattle.std.proofs.Math.Option.{Option, none, some}
+use Rattle.std.specs.Prelude.{◌≡◌, List, ℕ, ◌≤◌, ◌<◌, ℤ, length, Option, Some, None, Result, Ok, Err}
+use Rattle.std.proofs.Math.Option as maybe
+use Rattle.std.proofs.Math.Option.{none, some}
 use Rattle.acceptance.specs.Masks.{OwnSets}
 use Rattle.automaton.specs.declared.Automaton.{Automaton}
 use Rattle.refusals.specs.declared.Code.{Code}
@@ -13,8 +14,6 @@ use Rattle.clause_sizes.specs.declared.Target.{Target}
 use Rattle.clause_sizes.specs.Targets.{Dimensioned, Proper, task, numbers}
 use Rattle.clause_list.specs.Next.{Found, handed, ended, next_clause}
 use Rattle.clause_indices.specs.Indices.{clause_room}
-use Rattle.clause_step.specs.declared.Answer.{Answer}
-use Rattle.clause_step.specs.declared.Answer.TheVariants.{Written, Ended, Refused}
 use Rattle.clause_step.specs.declared.Handed.{Handed}
 
 -- ---- positions
@@ -34,7 +33,7 @@ abbrev pub line_room : ℕ
 line_room = 80
 
 -- "Order: 13 .., 4 for handed values, 8", then for the named acceptance "a yes past m: 4, 0, 0, after 8": a buffer has `given` places of the `needed`
-pub data TurnedDown (needed given : ℕ) (a : Automaton) (τ : Target) (x : ℕ) : Refusal → Option Code → Type 0 where
+pub data TurnedDown (needed given : ℕ) (a : Automaton) (τ : Target) (x : ℕ) : Refusal → maybe.Option Code → Type 0 where
   short : given < needed → TurnedDown needed given a τ x (Short needed given) (some (row 13 needed given))
   outside : needed ≤ given → ¬ (Valid a × (x ≤ last_position)) → TurnedDown needed given a τ x Outside (some (row 4 0 0))
   dimensions : needed ≤ given → Valid a → x ≤ last_position → ¬ Dimensioned τ → TurnedDown needed given a τ x (Dimensions τ.states τ.sets) (some (row 8 τ.states τ.sets))
@@ -48,28 +47,32 @@ pub record Accepted (needed given : ℕ) (a : Automaton) (τ : Target) (x : ℕ)
 
 -- ---- the answers
 
--- "Returned (number, a, b)": what an answer returns, or none where nothing is turned down
-abbrev pub returned : Answer → Option Code
-returned (Written k) = none
-returned Ended = none
-returned (Refused f) = some (code_of f)
+-- "Returned (number, a, b)": what is returned, or none where nothing is turned down
+abbrev pub returned : Result Handed Refusal → maybe.Option Code
+returned (Ok h) = none
+returned (Err f) = some (code_of f)
+
+-- "ended": the last clause has been handed out
+abbrev pub Ended : Result Handed Refusal → Type 0
+Ended (Ok h) = h.written ≡ None
+Ended (Err f) = ⊥
+
+-- the position that a call from position x leaves: "A refused step keeps its position"
+abbrev pub position_after : ℕ → Result Handed Refusal → ℕ
+position_after x (Ok h) = h.position
+position_after x (Err f) = x
 
 -- the first clause of the file from position x on
 abbrev pub found_from : (a : Automaton) (τ : Target) (x : ℕ) → Found
 found_from a τ = next_clause (task a τ) (numbers a τ)
 
--- What each answer says, y being the position that is handed back: "clause by clause; "ended" follows clause C"; "A refused step keeps its
--- position". Only the clause's literals are written.
+-- What each answer says: "clause by clause; "ended" follows clause C". Only the clause's literals are written.
 module _ (a : Automaton) (τ : Target) (x : ℕ) (d e : List ℤ) where
-  abbrev pub StepFound : Answer → (y : ℕ) → Type 0
-  StepFound (Written k) y = (c : List ℤ) × (found_from a τ x ≡ handed c y) × Wrote d 0 c e k
-  StepFound Ended y = (found_from a τ x ≡ ended y) × (e ≡ d)
-  StepFound (Refused f) y = ⊥
+  -- y is the position that is handed back
+  abbrev pub StepFound : Option ℕ → (y : ℕ) → Type 0
+  StepFound (Some k) y = (c : List ℤ) × (found_from a τ x ≡ handed c y) × Wrote d 0 c e k
+  StepFound None y = (found_from a τ x ≡ ended y) × (e ≡ d)
 
-  abbrev pub StepAnswers : Answer → (y : ℕ) → Type 0
-  StepAnswers (Written k) y = Accepted clause_room (length d) a τ x × StepFound (Written k) y
-  StepAnswers Ended y = Accepted clause_room (length d) a τ x × StepFound Ended y
-  StepAnswers (Refused f) y = TurnedDown clause_room (length d) a τ x f (returned (Refused f)) × (y ≡ x) × (e ≡ d)
-
-  abbrev pub Stepped : Handed → Type 0
-  Stepped r = StepAnswers r.answer r.position
+  abbrev pub Stepped : Result Handed Refusal → Type 0
+  Stepped (Ok h) = Accepted clause_room (length d) a τ x × StepFound h.written h.position
+  Stepped (Err f) = TurnedDown clause_room (length d) a τ x f (returned (Err f)) × (e ≡ d)

@@ -11,7 +11,7 @@ use automaton::Automaton;
 use automaton::states::ReferenceState;
 use clause_indices::extent::extent_of;
 use clause_list::next::next_clause;
-use clause_sizes::{Sized, Sizes, Target, measure};
+use clause_sizes::{Sizes, Target, measure};
 use refusals::Refusal;
 
 // The literals that the longest clause has.
@@ -20,19 +20,10 @@ pub const CLAUSE: usize = clause_indices::CLAUSE;
 // The position after the last clause of the largest file. A carried position lies in 0 to this one.
 pub const LAST: u64 = 8657059969;
 
-#[derive(Clone, Copy)]
-pub enum Answer {
-    // So much is written at the start of the buffer.
-    Written(usize),
-    // The last clause has been handed out.
-    Ended,
-    Refused(Refusal),
-}
-
-// The answer, and the position for the next call.
+// How much is written at the start of the buffer, or None where the last clause has been handed out; and the position for the next call.
 #[derive(Clone, Copy)]
 pub struct Handed {
-    pub answer: Answer,
+    pub written: Option<usize>,
     pub position: u64,
 }
 
@@ -43,42 +34,31 @@ pub fn fresh() -> u64
     0
 }
 
-// Writes the next clause of the file for the reference and the target.
-pub fn step(reference: Automaton, target: Target, position: u64, clause: &mut [i32]) -> Handed
+// Writes the next clause of the file for the reference and the target. "A refused step keeps its position": the caller has it still.
+pub fn step(
+    reference: Automaton,
+    target: Target,
+    position: u64,
+    clause: &mut [i32],
+) -> Result<Handed, Refusal>
     ensures { Stepped reference target position clause.old clause.new result }
 {
-    // "A refused step keeps its position."
-    let kept = position;
     let given = clause.len();
     if given < CLAUSE {
-        return Handed {
-            answer: Answer::Refused(Refusal::Short(CLAUSE, given)),
-            position: kept,
-        };
+        return Err(Refusal::Short(CLAUSE, given));
     }
     if position > LAST {
-        return Handed {
-            answer: Answer::Refused(Refusal::Outside),
-            position: kept,
-        };
+        return Err(Refusal::Outside);
     }
-    let measured = measure(reference, target);
-    let sizes = measured.sizes;
-    let answer = measured.answer;
-    match answer {
-        Sized::Of(_last) => find(reference, sizes, position, clause),
-        Sized::Refused(refusal) => Handed {
-            answer: Answer::Refused(refusal),
-            position: kept,
-        },
-    }
+    let measured = measure(reference, target)?;
+    Ok(find(reference, measured.sizes, position, clause))
 }
 
 // Where all is in order: z are the file's sizes.
 fn find(reference: Automaton, z: Sizes, position: u64, clause: &mut [i32]) -> Handed
     requires measured { Measured reference z }
     requires clause_room_in_bounds { clause_room ≤ length clause.old }
-    ensures { StepFound reference (target_of z) position clause.old clause.new result.answer result.position }
+    ensures { StepFound reference (target_of z) position clause.old clause.new result.written result.position }
 {
     let destinations = reference.destinations;
     let marks = reference.marks;
@@ -93,15 +73,8 @@ fn find(reference: Automaton, z: Sizes, position: u64, clause: &mut [i32]) -> Ha
         position as usize,
         clause,
     );
-    let after = next.position as u64;
-    if next.length == 0 {
-        return Handed {
-            answer: Answer::Ended,
-            position: after,
-        };
-    }
     Handed {
-        answer: Answer::Written(next.length),
-        position: after,
+        written: next.length,
+        position: next.position as u64,
     }
 }

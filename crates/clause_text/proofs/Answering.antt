@@ -1,4 +1,4 @@
--- The answers of `lines`, case by case.
+-- What `lines` finds.
 use mathlib.Core.Path.{◌≡◌, sym, ap, ◌∙◌, subst}
 use mathlib.Core.Logic.{◌≢◌, ⊎_elim, inl, inr}
 use mathlib.Core.List.{List}
@@ -8,7 +8,6 @@ use lib.ListN.{length, take, drop}
 use Rattle.encoding.specs.Variables.{Task, Var}
 use Rattle.decimal.specs.Wrote.{Wrote}
 use Rattle.automaton.specs.declared.Automaton.{Automaton}
-use Rattle.clause_sizes.specs.declared.Target.{Target}
 use Rattle.clause_sizes.specs.declared.Sizes.{Sizes}
 use Rattle.clause_sizes.specs.Targets.{numbers}
 use Rattle.clause_sizes.specs.Numbers.{number_of}
@@ -18,16 +17,11 @@ use Rattle.clause_list.specs.Tables.{task_of}
 use Rattle.clause_list.specs.Measured.{measured_task, measured_number, measured_posed}
 use Rattle.clause_list.specs.Next.{clauses_from}
 use Rattle.clause_list.specs.Following.{same_from}
-use Rattle.clause_step.specs.declared.Answer.{Answer}
-use Rattle.clause_step.specs.declared.Answer.TheVariants.{Written, Ended, Refused}
-use Rattle.clause_step.specs.declared.Handed.{Handed}
-use Rattle.clause_step.specs.Step.{Accepted}
+use Rattle.std.specs.Prelude.{Some, None}
 use Rattle.clause_text.specs.declared.batch.Filled.{Filled}
-use Rattle.clause_text.specs.Answers.{Batch, BatchFound, BatchAnswers, BatchStepped}
+use Rattle.clause_text.specs.Answers.{Batch, BatchFound}
 use Rattle.clause_words.specs.Text.{lines_text}
 use Rattle.clause_text.specs.Filling.{Filling}
-
--- ---- what is found
 
 -- the same clauses from every position on
 filling_same : {T : Task} {num other : Var → ℕ} {x : ℕ} {d e : List ℕ} {k y : ℕ} → ((v : ℕ) → clauses_from T num v ≡ clauses_from T other v) → Filling T num x d e k y → Filling T other x d e k y
@@ -51,20 +45,9 @@ measured_batch {a} {z} w x {d} {e} {k} {y} f =
 
 module _ {a : Automaton} {z : Sizes} (w : Measured a z) (x : ℕ) {d e : List ℕ} {r : Filled} where
   pub batch_ended : Filling (task_of z a.start a.destinations a.marks) (number_of z) x d e r.end r.position → r.end ≡ 0
-      → BatchFound a (target_of z) x d e Ended r.position
+      → BatchFound a (target_of z) x d e None r.position
   batch_ended f l = subst (λ k. Batch a (target_of z) x d e k r.position) l (measured_batch w x f)
 
   pub batch_handed : Filling (task_of z a.start a.destinations a.marks) (number_of z) x d e r.end r.position → r.end ≢ 0
-      → BatchFound a (target_of z) x d e (Written r.end) r.position
+      → BatchFound a (target_of z) x d e (Some r.end) r.position
   batch_handed f l = (measured_batch w x f, omega arith)
-
--- ---- the answers
-
-module _ (a : Automaton) (τ : Target) (x : ℕ) (d e : List ℕ) (r : Handed) (k : Accepted 80 (length d) a τ x) where
-  pub batch_accepted : BatchFound a τ x d e r.answer r.position → BatchStepped a τ x d e r
-  batch_accepted f = go r.answer f
-    where
-      go : (b : Answer) → BatchFound a τ x d e b r.position → BatchAnswers a τ x d e b r.position
-      go (Written l) f = (k, f)
-      go Ended f = (k, f)
-      go (Refused g) f = absurd f

@@ -11,16 +11,15 @@ use lib.Dec.{eqb}
 use lib.IntN.{ℤ}
 use lib.ListN.{length, take, drop, length-append, length-drop}
 use lib.Seq.{take-add, drop-drop, length-take-le}
+use Rattle.std.specs.Prelude.{Option, Some, None}
 use Rattle.meaning.specs.TestLaws.{and_true, and_left, and_right}
 use Rattle.encoding.specs.Variables.{Task, Var}
 use Rattle.encoding.specs.Positions.{positions}
 use Rattle.decimal.specs.Wrote.{Wrote, WroteIfRoom}
 use Rattle.decimal.specs.Writing.{wrote_none, wrote_then, wrote_length, wrote_front}
-use Rattle.clause_list.specs.declared.next.Next.{Next}
 use Rattle.clause_list.specs.Next.{Found, handed, ended, next_clause, clauses_from}
 use Rattle.clause_list.specs.Following.{First, next_first, position_of, next_le, After, next_after}
-use Rattle.clause_list.specs.Handing as handing
-use Rattle.clause_list.specs.Handing.{Hands}
+use Rattle.clause_list.specs.Handing.{HandsAt}
 use Rattle.clause_text.specs.declared.batch.Filled.{Filled}
 use Rattle.clause_words.specs.Text.{line_text, lines_text}
 use Rattle.clause_words.specs.Written.{LineIfRoom}
@@ -30,36 +29,36 @@ use Rattle.clause_text.specs.LinesOut.{lines_append}
 
 -- ---- the next line
 
--- a clause was found, and stands at the start of the buffer
-pub record FoundClause (f : Found) (e : List ℤ) (r : Next) : Type 0 where
+-- a clause was found, and its k literals stand at the start of the buffer
+pub record FoundClause (f : Found) (e : List ℤ) (k y : ℕ) : Type 0 where
   pub clause : List ℤ
-  pub found : f ≡ handed clause r.position
-  pub front : take r.length e ≡ clause
-  pub room : r.length ≤ length e
+  pub found : f ≡ handed clause y
+  pub front : take k e ≡ clause
+  pub room : k ≤ length e
 
-module _ {f : Found} {d e : List ℤ} {r : Next} where
-  pub hands_clause : Hands f d e r → r.length ≢ 0 → FoundClause f e r
-  hands_clause (handing.clause c q w h) n = record { clause = c; found = q; front = wrote_front w; room = omega (arith, w.room, wrote_length w) }
-  hands_clause (handing.nothing q w h) n = absurd (n h)
+pub hands_clause : (f : Found) (d e : List ℤ) (y : ℕ) {r : Option ℕ} {k : ℕ} → r ≡ Some k → HandsAt f d e y r → FoundClause f e k y
+hands_clause f d e y {k} q h = go (subst (HandsAt f d e y) q h)
+  where
+    go : HandsAt f d e y (Some k) → FoundClause f e k y
+    go (c, q, w, h) = record { clause = c; found = q; front = wrote_front w; room = omega (arith, w.room, wrote_length w) }
 
-  pub hands_nothing : Hands f d e r → r.length ≡ 0 → f ≡ ended r.position
-  hands_nothing (handing.clause c q w h) n = absurd (omega arith)
-  hands_nothing (handing.nothing q w h) n = q
+pub hands_nothing : (f : Found) (d e : List ℤ) (y : ℕ) {r : Option ℕ} → r ≡ None → HandsAt f d e y r → f ≡ ended y
+hands_nothing f d e y q h = (subst (HandsAt f d e y) q h).0
 
 pub line_some : (c : List ℤ) → 1 ≤ length (line_text c)
 line_some [] = omega arith
 line_some (x ∷ c) = simp length-append (omega arith)
 
 -- its line was written where there is room
-module _ {f : Found} {e : List ℤ} {r : Next} (c : FoundClause f e r) (size : length e ≡ 8) (from : ℕ) {d : List ℕ} {at : ℕ} {b : List ℕ} {end : ℕ}
-    (l : LineIfRoom d at (take r.length e) b end) where
+module _ {f : Found} {e : List ℤ} {k y : ℕ} (c : FoundClause f e k y) (size : length e ≡ 8) (from : ℕ) {d : List ℕ} {at : ℕ} {b : List ℕ} {end : ℕ}
+    (l : LineIfRoom d at (take k e) b end) where
   at_line : WroteIfRoom d at (line_text c.clause) b end
-  at_line = (subst (λ t. LineIfRoom d at t b end) c.front l).line (omega (arith, ap length c.front, length-take-le r.length e c.room, c.room, size))
+  at_line = (subst (λ t. LineIfRoom d at t b end) c.front l).line (omega (arith, ap length c.front, length-take-le k e c.room, c.room, size))
 
-  pub next_written : end ≢ at → NextLine f from d at b (record { end = end; position = r.position })
+  pub next_written : end ≢ at → NextLine f from d at b (record { end = end; position = y })
   next_written n = go (dec_lt (length d) (at + length (line_text c.clause)))
     where
-      go : Dec (length d < at + length (line_text c.clause)) → NextLine f from d at b (record { end = end; position = r.position })
+      go : Dec (length d < at + length (line_text c.clause)) → NextLine f from d at b (record { end = end; position = y })
       go (yes g) = absurd (n (at_line.short g).1)
       go (no g) = written c.clause c.found (at_line.roomy (omega (arith, g)))
 
@@ -67,7 +66,7 @@ module _ {f : Found} {e : List ℤ} {r : Next} (c : FoundClause f e r) (size : l
   next_long q = go (dec_lt (length d) (at + length (line_text c.clause)))
     where
       go : Dec (length d < at + length (line_text c.clause)) → NextLine f from d at b (record { end = end; position = from })
-      go (yes g) = long c.clause r.position c.found g (at_line.short g).0 q refl
+      go (yes g) = long c.clause y c.found g (at_line.short g).0 q refl
       go (no g) = absurd (omega (arith, (at_line.roomy (omega (arith, g))).next, line_some c.clause))
 
 -- ---- lines after lines

@@ -141,13 +141,12 @@ fn next_line(
 {
     let mut clause = [0i32; CLAUSE];
     let next = next_clause(z, g, start, destinations, marks, from, &mut clause);
-    let count = next.length;
-    if count == 0 {
+    let Some(count) = next.length else {
         return Filled {
             end: at,
             position: next.position,
         };
-    }
+    };
     let end = write_line(&clause[..count], text, at);
     if end == at {
         return Filled {

@@ -11,8 +11,8 @@ use automaton::Automaton;
 use automaton::states::ReferenceState;
 use clause_indices::extent::extent_of;
 use clause_line::LINE;
-use clause_sizes::{Sized, Sizes, Target, measure};
-use clause_step::{Answer, Handed, LAST};
+use clause_sizes::{Sizes, Target, measure};
+use clause_step::{Handed, LAST};
 use refusals::Refusal;
 
 mod batch;
@@ -20,39 +20,30 @@ mod block;
 mod keeping;
 
 // Writes the lines of the next clauses, as many as fit whole.
-pub fn lines(reference: Automaton, target: Target, position: u64, text: &mut [u8]) -> Handed
+pub fn lines(
+    reference: Automaton,
+    target: Target,
+    position: u64,
+    text: &mut [u8],
+) -> Result<Handed, Refusal>
     ensures { BatchStepped reference target position text.old text.new result }
 {
     let given = text.len();
     if given < LINE {
-        return Handed {
-            answer: Answer::Refused(Refusal::Short(LINE, given)),
-            position,
-        };
+        return Err(Refusal::Short(LINE, given));
     }
     if position > LAST {
-        return Handed {
-            answer: Answer::Refused(Refusal::Outside),
-            position,
-        };
+        return Err(Refusal::Outside);
     }
-    let measured = measure(reference, target);
-    let sizes = measured.sizes;
-    let answer = measured.answer;
-    match answer {
-        Sized::Of(_last) => many_lines(reference, sizes, position, text),
-        Sized::Refused(refusal) => Handed {
-            answer: Answer::Refused(refusal),
-            position,
-        },
-    }
+    let measured = measure(reference, target)?;
+    Ok(many_lines(reference, measured.sizes, position, text))
 }
 
 // Where all is in order: z are the file's sizes.
 fn many_lines(reference: Automaton, z: Sizes, position: u64, text: &mut [u8]) -> Handed
     requires measured { Measured reference z }
     requires in_bounds { 80 ≤ length text.old }
-    ensures { BatchFound reference (target_of z) position text.old text.new result.answer result.position }
+    ensures { BatchFound reference (target_of z) position text.old text.new result.written result.position }
 {
     let destinations = reference.destinations;
     let marks = reference.marks;
@@ -62,12 +53,12 @@ fn many_lines(reference: Automaton, z: Sizes, position: u64, text: &mut [u8]) ->
     let after = filled.position as u64;
     if filled.end == 0 {
         return Handed {
-            answer: Answer::Ended,
+            written: None,
             position: after,
         };
     }
     Handed {
-        answer: Answer::Written(filled.end),
+        written: Some(filled.end),
         position: after,
     }
 }

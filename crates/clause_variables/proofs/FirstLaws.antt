@@ -1,5 +1,5 @@
 -- The first paths of a row: bounds on the way to their numbers, what the numbers are, and how they are counted.
-use mathlib.Core.Path.{◌≡◌, refl, sym, ap, ◌∙◌, subst}
+use mathlib.Core.Path.{◌≡◌, refl, sym, ap, ◌∙◌, subst, subst₂}
 use mathlib.Core.Bool.{Bool, true, false, cond, ◌&&◌}
 use mathlib.Core.List.{List}
 use Prim.Native.Nat.{ℕ, suc, ◌+◌, ◌-◌, ◌*◌, ◌%◌, ◌^◌, ◌≤◌, ◌<◌}
@@ -13,7 +13,7 @@ use lib.Dec.{ltb}
 use lib.Pow.{pow_pos}
 use lib.ListN.{length, get_or, set}
 use Rattle.meaning.specs.BitSet.{bit, has}
-use Rattle.meaning.specs.BitSetLaws.{has_zero, has_and}
+use Rattle.meaning.specs.BitSetLaws.{has_and}
 use Rattle.meaning.proofs.FullSets.{has_below}
 use Rattle.meaning.specs.Counting.{total, how_many}
 use Rattle.meaning.specs.CountingLaws.{Filled, filled_none, filled_more, each_at}
@@ -22,17 +22,25 @@ use Rattle.meaning.specs.Totals.{how_many_same}
 use Rattle.bits.specs.Members.{shift_is}
 use Rattle.bits.specs.SetLaws.{has_past}
 use Rattle.automaton.specs.Value.{table}
-use Rattle.encoding.specs.Variables.{path}
+use Rattle.encoding.specs.Variables.{Var, path}
 use Rattle.clause_sizes.specs.declared.Sizes.{Sizes}
 use Rattle.clause_sizes.specs.Sizes.{Fitting}
 use Rattle.clause_sizes.specs.Limits.{marks_le, markings_le}
-use Rattle.clause_sizes.specs.Numbers.{kept_among, before, in_row, rank_in, InFile, NumberIfAny}
+use Rattle.clause_sizes.specs.Numbers.{kept_among, before, in_row, rank_in, InFile, Numbered, NumberIfAny}
 use Rattle.clause_sizes.specs.Conjunctions.{false_not}
 use Rattle.clause_variables.specs.declared.firsts.FirstRow.{FirstRow}
 use Rattle.clause_variables.specs.FirstPaths.{FirstPaths}
-use Rattle.clause_variables.specs.FirstRows.{Cut, first_at, no_row, FirstRowOf}
+use Rattle.clause_variables.specs.FirstRows.{Cut, first_at, FirstRowOf, Pathless}
 use Rattle.clause_variables.proofs.Laws.{path_lt, path_is}
-use Rattle.clause_variables.proofs.Tested.{no_variable, a_variable}
+
+-- ---- the answer
+
+module _ (z : Sizes) (x : Var) where
+  pub no_variable : ¬ (Fitting z × InFile z x) → NumberIfAny z x 0
+  no_variable h = record { there = λ f i. absurd (h (f, i)); none = λ n. refl; found = λ l. absurd (omega arith) }
+
+  pub a_variable : {k : ℕ} → Fitting z → InFile z x → Numbered z x k → NumberIfAny z x k
+  a_variable f i n = record { there = λ g j. n; none = λ h. absurd (h (f, i)); found = λ l. (f, i) }
 
 -- ---- the counting
 
@@ -66,6 +74,9 @@ counted_more r numbers next v {b} {x} {y} C h w e ex ey =
       next_le = omega (arith, C.next_le, at_most_all b r.width ey);
     }
 
+pub counted_is : {r : FirstRow} {xs ys : List ℕ} {m n v : ℕ} → xs ≡ ys → m ≡ n → Counted r ys n v → Counted r xs m v
+counted_is {r} {v} e f = subst₂ (λ xs m. Counted r xs m v) (sym e) (sym f)
+
 -- ---- the members below a number
 
 and_all : (b : Bool) → (b && true) ≡ b
@@ -96,12 +107,8 @@ row_numbers {z} q u p {r} R e =
 
 -- ---- no row
 
-pub no_row_lem : (z : Sizes) (q u p : ℕ) {r : FirstRow} → r ≡ no_row → ((v : ℕ) → ¬ (Fitting z × InFile z (path q u p v 0 0))) → FirstRowOf z q u p r
-no_row_lem z q u p e h = subst (λ r. FirstRowOf z q u p r) (sym e) (record {
-  first_le = omega arith;
-  width_le = omega arith;
-  each = λ v l. subst (λ b. NumberIfAny z (path q u p v 0 0) (cond b (0 + how_many v (has 0) * 0) 0)) (sym (has_zero v)) (no_variable z (path q u p v 0 0) (h v));
-})
+pub no_numbers : {z : Sizes} (q u p : ℕ) {numbers : List ℕ} → Pathless z q u p → ((v : ℕ) → v < 16 → get_or numbers v 0 ≡ 0) → FirstPaths z q u p numbers
+no_numbers {z} q u p h e = record { each = λ v l. subst (NumberIfAny z (path q u p v 0 0)) (sym (e v l)) (no_variable z (path q u p v 0 0) (h.none v)) }
 
 -- ---- a row
 

@@ -11,8 +11,10 @@ use Rattle.meaning.specs.Totals.{how_many_lt}
 use Rattle.encoding.specs.Variables.{step, mark, path}
 use Rattle.clause_sizes.specs.declared.Sizes.{Sizes}
 use Rattle.clause_sizes.specs.Sizes.{Fitting}
-use Rattle.clause_sizes.specs.Limits.{candidate_subsets_le, reference_subsets_le}
-use Rattle.clause_sizes.specs.Numbers.{kept_among, before, in_row, rank_in, InFile, number_of}
+use Rattle.clause_sizes.specs.Limits.{candidate_subsets_le, reference_subsets_le, marks_le}
+use Rattle.clause_sizes.specs.Numbers.{kept_among, before, in_row, rank_in, InFile, Numbered, number_of}
+use Rattle.clause_variables.specs.declared.rows.Row.{Row}
+use Rattle.clause_variables.specs.Kept.{RowOf}
 
 -- one more digit below its base, after a number below a bound
 digit_lt : {a b base : ℕ} (c d : ℕ) → a < c → b < base → base ≤ d → a * base + b < c * d
@@ -75,3 +77,14 @@ module _ {z : Sizes} (f : Fitting z) where
 -- the members of a row below v
 pub rank_of : (z : Sizes) (u v : ℕ) {set k : ℕ} → set ≡ get_or z.paths.sets u 0 → k ≡ how_many (min v 16) (has set) → v < 16 → k ≡ rank_in z u v
 rank_of z u v {set} es ek h = let e : min v 16 ≡ v = omega arith in ek ∙ ap (λ j. how_many j (has set)) e ∙ ap (λ s. how_many v (has s)) es
+
+-- the bounds and the number of a path, by the row of u and by how many of its states are below v
+module _ {z : Sizes} (f : Fitting z) {q u p v I J k : ℕ} {row : Row} (i : InFile z (path q u p v I J)) (R : RowOf z u row) (e : k ≡ how_many (min v 16) (has row.set)) where
+  rank : k ≡ rank_in z u v
+  rank = rank_of z u v R.set_is e (omega (arith, f.r_le, i.0.3))
+
+  pub bounds_of : PathBounds f q p I J row.before row.size k
+  bounds_of = path_lt f _ _ _ i R.before_is R.size_is rank
+
+  pub numbered_path : Numbered z (path q u p v I J) (z.marks + (1 + (((z.candidate.states * (q * z.paths.pairs + row.before) + p * row.size + k) * z.candidate.subsets + I) * z.reference.subsets + J)))
+  numbered_path = record { is = path_is f _ _ _ _ _ _ R.before_is R.size_is rank; some = omega arith; small = omega (arith, bounds_of.both, marks_le f) }

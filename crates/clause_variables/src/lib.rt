@@ -81,8 +81,10 @@ pub fn first_paths(
 )
     ensures { FirstPaths z q.0 u.0 p.0 numbers.new }
 {
-    let row = firsts::first_row(z, q, u, p);
-    firsts::fill(row, numbers);
+    match firsts::first_row(z, q, u, p) {
+        Some(row) => firsts::fill(row, numbers),
+        None => *numbers = [0; Automaton::STATES],
+    }
 }
 
 // Whether u has path variables to v.

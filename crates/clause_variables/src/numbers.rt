@@ -42,8 +42,7 @@ pub fn path_number(
 {
     let n = z.candidate.states;
     let row = row_of(z, u);
-    let paths = z.paths;
-    let pair = n * (q.0 * paths.pairs + row.before) + p.0 * row.size + below(row.set, v.0);
+    let pair = n * (q.0 * z.paths.pairs + row.before) + p.0 * row.size + below(row.set, v.0);
     let place = (pair * z.candidate.subsets + i) * z.reference.subsets + j;
     z.marks + (1 + place)
 }

@@ -13,10 +13,7 @@ pub fn row_set(z: Sizes, u: ReferenceState) -> u16
     requires { u.0 < 16 }
     ensures { result ≡ get_or z.paths.sets u.0 0 }
 {
-    let paths = z.paths;
-    let sets = paths.sets;
-    let at = u.0;
-    sets[at]
+    z.paths.sets[u.0]
 }
 
 // A row: its set of states, how many it holds, and how many the rows before it hold.
@@ -32,20 +29,11 @@ pub fn row_of(z: Sizes, u: ReferenceState) -> Row
     ensures { RowOf z u.0 result }
 {
     let set = row_set(z, u);
-    let paths = z.paths;
-    let before = paths.before;
-    let at = u.0;
     Row {
         set,
         size: below(set, Automaton::STATES),
-        before: wide(before[at]),
+        before: usize::from(z.paths.before[u.0]),
     }
-}
-
-fn wide(count: u8) -> usize
-    ensures { (result ≡ count) × (result ≤ 255) }
-{
-    count as usize
 }
 
 // Whether the row of u lies among the pairs.
@@ -54,6 +42,5 @@ pub fn within(z: Sizes, u: ReferenceState) -> bool
     ensures { (result ≡ true) ↔ (before z u.0 + in_row z u.0 ≤ z.paths.pairs) }
 {
     let row = row_of(z, u);
-    let paths = z.paths;
-    row.before + row.size <= paths.pairs
+    row.before + row.size <= z.paths.pairs
 }

@@ -1,7 +1,7 @@
 // The text of clauses: their literals, and whole lines.
 #![tactic(auto)]
 
-ghost use Rattle.std.specs.Prelude.{◌≡◌, [], ◌∷◌, ◌+◌, ◌≤◌, nat_abs, length};
+ghost use Rattle.std.specs.Prelude.{◌≡◌, [], ◌∷◌, ◌+◌, ◌≤◌, length};
 ghost use Rattle.decimal.specs.Wrote.{Wrote};
 ghost use Rattle.clause_words.specs.Text.{literal_text, spaced_text};
 ghost use Rattle.clause_words.specs.Written.{LiteralsIfRoom, LineIfRoom};
@@ -44,11 +44,9 @@ pub fn write_literals(clause: &[i32], text: &mut [u8], at: usize) -> usize
     if (size - at) / LITERAL < clause.len() {
         return at;
     }
-    let mut i: usize = 0;
     let mut to = at;
-    while i < clause.len() {
-        to = write_spaced(clause[i], text, to);
-        i += 1;
+    for literal in clause {
+        to = write_spaced(*literal, text, to);
     }
     to
 }
@@ -67,19 +65,10 @@ fn write_literal(literal: i32, text: &mut [u8], at: usize) -> usize
     requires { at + length (literal_text literal) ≤ length text.old }
     ensures { Wrote text.old at (literal_text literal) text.new result }
 {
-    let variable = variable_of(literal);
+    let variable = u64::from(literal.unsigned_abs());
     if literal < 0 {
         text[at] = b'-';
-        return decimal::write(variable as u64, text, at + 1);
+        return decimal::write(variable, text, at + 1);
     }
-    decimal::write(variable as u64, text, at)
-}
-
-fn variable_of(literal: i32) -> u32
-    ensures { result ≡ nat_abs literal }
-{
-    if literal < 0 {
-        return (-1 - literal) as u32 + 1;
-    }
-    literal as u32
+    decimal::write(variable, text, at)
 }

@@ -1,21 +1,20 @@
 -- DEFINITION: what the comparison answers, and what it leaves in the two lent buffers.
-use Rattle.std.specs.Prelude.{◌≡◌, ◌≢◌, List, ◌++◌, ℕ, ◌≤◌, ◌<◌, length, drop}
+use Rattle.std.specs.Prelude.{◌≡◌, ◌≢◌, Result, Ok, Err, List, ◌++◌, ℕ, ◌≤◌, ◌<◌, length, drop}
 use Rattle.std.proofs.Math.Option.{Option, none, some}
 use Rattle.meaning.specs.Agreement.{Agree}
 use Rattle.meaning.specs.FirstWord.{FirstWord}
 use Rattle.automaton.specs.declared.Automaton.{Automaton}
 use Rattle.refusals.specs.declared.Code.{Code}
+use Rattle.refusals.specs.declared.Refusal.{Refusal}
 use Rattle.refusals.specs.declared.Refusal.TheVariants.{Outside, Differ, Short, Propositions}
 use Rattle.refusals.specs.Refused.{row, code_of}
 use Rattle.automaton.specs.Value.{Valid}
 use Rattle.automaton.specs.View.{view}
-use Rattle.compare.specs.declared.Comparison.{Comparison}
-use Rattle.compare.specs.declared.Comparison.TheVariants.{Same, Refused}
 
 -- "Returned (number, a, b)": what an answer returns, or none where nothing is turned down
-abbrev pub returned : Comparison → Option Code
-returned Same = none
-returned (Refused f) = some (code_of f)
+abbrev pub returned : Result (Unit {0}) Refusal → Option Code
+returned (Ok same) = none
+returned (Err f) = some (code_of f)
 
 -- "Buffers: prefix 256 .. (one byte a letter)", and document 02's "the loop buffer 2,304"
 abbrev pub prefix_room : ℕ
@@ -30,16 +29,16 @@ pub record Room (prefix loop : List ℕ) : Type 0 where
   pub loop_room_fits : loop_room ≤ length loop
 
 -- what the comparison is asked, and what becomes of it: the answer, and the buffers before and after
-module _ (a b : Automaton) (prefix prefix-after loop loop-after : List ℕ) (answer : Comparison) where
+module _ (a b : Automaton) (prefix prefix-after loop loop-after : List ℕ) (answer : Result (Unit {0}) Refusal) where
   -- an answer that leaves both buffers as they were, and what it returns
-  abbrev pub Untouched : Comparison → Option Code → Type 0
+  abbrev pub Untouched : Result (Unit {0}) Refusal → Option Code → Type 0
   Untouched r c = (answer ≡ r) × (prefix-after ≡ prefix) × (loop-after ≡ loop) × (returned answer ≡ c)
 
   -- 12: the first word that shows the difference. "On 12 only the stated lengths are written."
   pub record Shown : Type 0 where
     pub x : List ℕ
     pub y : List ℕ
-    pub says : answer ≡ Refused (Differ (length x) (length y))
+    pub says : answer ≡ Err (Differ (length x) (length y))
     pub prefix_is : prefix-after ≡ x ++ drop (length x) prefix
     pub loop_is : loop-after ≡ y ++ drop (length y) loop
     pub word : FirstWord (view a) (view b) x y
@@ -47,10 +46,10 @@ module _ (a b : Automaton) (prefix prefix-after loop loop-after : List ℕ) (ans
 
   -- "Order: 13 (prefix before loop), 4 for handed values, .. 14, 12."
   pub record Compared : Type 0 where
-    pub short_prefix : length prefix < prefix_room → Untouched (Refused (Short prefix_room (length prefix))) (some (row 13 prefix_room (length prefix)))
-    pub short_loop : prefix_room ≤ length prefix → length loop < loop_room → Untouched (Refused (Short loop_room (length loop))) (some (row 13 loop_room (length loop)))
-    pub outside : prefix_room ≤ length prefix → loop_room ≤ length loop → ¬ (Valid a × Valid b) → Untouched (Refused Outside) (some (row 4 0 0))
+    pub short_prefix : length prefix < prefix_room → Untouched (Err (Short prefix_room (length prefix))) (some (row 13 prefix_room (length prefix)))
+    pub short_loop : prefix_room ≤ length prefix → length loop < loop_room → Untouched (Err (Short loop_room (length loop))) (some (row 13 loop_room (length loop)))
+    pub outside : prefix_room ≤ length prefix → loop_room ≤ length loop → ¬ (Valid a × Valid b) → Untouched (Err Outside) (some (row 4 0 0))
     pub letters : prefix_room ≤ length prefix → loop_room ≤ length loop → Valid a → Valid b → a.propositions ≢ b.propositions
-        → Untouched (Refused (Propositions a.propositions b.propositions)) (some (row 14 a.propositions b.propositions))
-    pub same : prefix_room ≤ length prefix → loop_room ≤ length loop → Valid a → Valid b → a.propositions ≡ b.propositions → Agree (view a) (view b) → Untouched Same none
+        → Untouched (Err (Propositions a.propositions b.propositions)) (some (row 14 a.propositions b.propositions))
+    pub same : prefix_room ≤ length prefix → loop_room ≤ length loop → Valid a → Valid b → a.propositions ≡ b.propositions → Agree (view a) (view b) → Untouched (Ok tt) none
     pub differ : prefix_room ≤ length prefix → loop_room ≤ length loop → Valid a → Valid b → a.propositions ≡ b.propositions → ¬ Agree (view a) (view b) → Shown

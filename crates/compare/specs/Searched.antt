@@ -1,11 +1,12 @@
 -- What the search for a difference is given, and what it finds.
-use Rattle.std.specs.Prelude.{◌≡◌, List, ◌++◌, ℕ, ◌≤◌, length, drop}
+use Rattle.std.specs.Prelude.{◌≡◌, Result, Ok, Err, List, ◌++◌, ℕ, ◌≤◌, length, drop}
 use Rattle.std.proofs.Common.{subst, ⊎_elim, arith}
 use Rattle.meaning.specs.Agreement.{Agree}
 use Rattle.meaning.specs.FirstWord.{FirstWord}
 use Rattle.meaning.proofs.FirstWordLaws.{shows_difference}
 use Rattle.meaning.proofs.FirstWordExists.{agree_or_first}
 use Rattle.automaton.specs.declared.Automaton.{Automaton}
+use Rattle.refusals.specs.declared.Refusal.{Refusal}
 use Rattle.refusals.specs.declared.Refusal.TheVariants.{Outside, Differ}
 use Rattle.automaton.specs.Value.{Valid, letters}
 use Rattle.automaton.specs.View.{view}
@@ -14,8 +15,6 @@ use Rattle.compare_shortest.specs.declared.Verdict.{Verdict}
 use Rattle.compare_shortest.specs.declared.Verdict.TheVariants.{Same as NoWord, Differ as Found, Unfit}
 use Rattle.compare_shortest.specs.Difference.{Shows, Fit}
 use Rattle.compare_shortest.specs.Answer.{Answer, Answered, Within}
-use Rattle.compare.specs.declared.Comparison.{Comparison}
-use Rattle.compare.specs.declared.Comparison.TheVariants.{Same, Refused}
 use Rattle.compare.specs.Compared.{prefix_room, loop_room}
 use Rattle.compare.specs.Differences.{Pair, Shown, in_range, comparable, shown_difference, difference_shown}
 use Rattle.compare.specs.Bounds.{word_fits, first_fitting}
@@ -29,10 +28,10 @@ pub record Ready (a b : Automaton) (p l : ℕ) : Type 0 where
   pub loop_room_fits : loop_room ≤ l
 
 -- a verdict of the search as an answer
-abbrev pub answered : Verdict → Comparison
-answered NoWord = Same
-answered (Found p l) = Refused (Differ p l)
-answered Unfit = Refused Outside
+abbrev pub answered : Verdict → Result (Unit {0}) Refusal
+answered NoWord = Ok tt
+answered (Found p l) = Err (Differ p l)
+answered Unfit = Err Outside
 
 -- the automata agree, or the first word that shows a difference stands in the front of the two buffers; their tables are never unfit
 abbrev pub Searched : Automaton → Automaton → List ℕ → List ℕ → List ℕ → List ℕ → Verdict → Type 0

@@ -1,21 +1,17 @@
 // Where the acceptances of two automata differ.
-ghost use Rattle.std.specs.Prelude.{◌≡◌, length};
+ghost use Rattle.std.specs.Prelude.{◌≡◌};
 ghost use Rattle.meaning.specs.BitSet.{has};
-ghost use Rattle.compare_shortest.specs.Sizes.{hit_count};
 ghost use Rattle.compare.specs.Verdicts.{unlike, Judged};
 
 use bits::sets::has;
 use compare_shortest::{HITS, MARKS};
 
 // The table of the pairs of sets of marks that one acceptance says yes for and the other does not: that of the first times `MARKS`, and that of the second.
-pub fn judge_all(first: u16, second: u16, hits: &mut [u8])
-    requires { length hits.old ≡ hit_count }
+pub fn judge_all(first: u16, second: u16, hits: &mut [u8; HITS])
     ensures { Judged first second hits.new }
 {
-    let mut m: usize = 0;
-    while m < HITS {
-        hits[m] = judge(accepts(first, m / MARKS), accepts(second, m % MARKS));
-        m += 1;
+    for (m, hit) in hits.iter_mut().enumerate() {
+        *hit = judge(accepts(first, m / MARKS), accepts(second, m % MARKS));
     }
 }
 
@@ -23,10 +19,7 @@ pub fn judge_all(first: u16, second: u16, hits: &mut [u8])
 fn judge(first: bool, second: bool) -> u8
     ensures { result ≡ unlike first second }
 {
-    if first == second {
-        return 0;
-    }
-    1
+    u8::from(first != second)
 }
 
 // Whether a run that meets just these sets infinitely often is accepting: the one place where acceptance is tested.

@@ -16,11 +16,6 @@ pub record Exploring (D H seen places : List ℕ) (L root pair bound n h : ℕ) 
   pub miss : Missed places H pair 1 n n
   pub near : (j : ℕ) → j < n → depth_of (at places j) ≤ bound
 
--- after one turn of it: k is the first place of a hit, or m
-pub record Turned (D H seen places : List ℕ) (L root pair bound m k h : ℕ) : Type 0 where
-  pub stop : k < m → Explored D H seen places L root pair bound m k
-  pub go_on : m ≤ k → Exploring D H seen places L root pair bound m (h + 1)
-
 pub exploring_root : {D H seen places : List ℕ} {L root pair : ℕ} (bound : ℕ) → State D seen places L root 1 0 0 → Exploring D H seen places L root pair bound 1 0
 exploring_root {places = places} bound S = record {
   state = S;
@@ -61,12 +56,12 @@ module _ {D H seen places : List ℕ} {L root pair bound n h : ℕ} (E : Explori
             let up = T.search.upto j o z in
             omega (arith, C.deeper, depths_rise T.search (parent (view places-next) j) h (omega arith) (omega arith), ap depth_of (old h here))
 
-    pub turn : Turned D H Seen-next places-next L root pair bound m k h
-    turn = record {
-      stop = λ z. record { here = h + 1; state = T; first = first_of_all; near = near_all; all = λ e. absurd (omega arith) };
-      go_on = λ z. record {
-        state = T;
-        miss = record { low = omega (arith, T.search.some); high = omega arith; before = λ j a b. first_of_all.before j a (omega arith) };
-        near = near_all;
-      };
+    pub stopped_hit : k < m → Explored D H Seen-next places-next L root pair bound m k
+    stopped_hit z = record { here = h + 1; state = T; first = first_of_all; near = near_all; all = λ e. absurd (omega arith) }
+
+    pub goes_on : m ≤ k → Exploring D H Seen-next places-next L root pair bound m (h + 1)
+    goes_on z = record {
+      state = T;
+      miss = record { low = omega (arith, T.search.some); high = omega arith; before = λ j a b. first_of_all.before j a (omega arith) };
+      near = near_all;
     }

@@ -1,6 +1,7 @@
 -- Where a search stops: at the first hit, or when every node within some number of letters has been found.
 use Rattle.std.specs.Prelude.{◌≡◌, List, ℕ, ◌≤◌, ◌<◌, length}
-use Rattle.std.proofs.Common.{subst, arith}
+use Rattle.std.specs.Option.{unwrap_or}
+use Rattle.std.proofs.Common.{Option, Some, None, subst, arith}
 use Rattle.compare_shortest.specs.Graph.{at}
 use Rattle.compare_shortest.specs.Packing.{depth_of}
 use Rattle.compare_shortest.specs.Seen.{Clear}
@@ -23,6 +24,13 @@ pub record Searched (D H places : List ℕ) (L root pair bound n k : ℕ) : Type
 
 pub searched : {D H seen places : List ℕ} {L root v pair bound n k : ℕ} → root ≡ v → Explored D H seen places L root pair bound n k → Searched D H places L v pair bound n k
 searched {D} {H} {seen} {places} {L} {root} {v} {pair} {bound} {n} {k} e X = record { seen = seen; explored = subst (λ r. Explored D H seen places L r pair bound n k) e X }
+
+-- where there is a hit, and where there is none
+pub hit_some : {D H places : List ℕ} {L root pair bound n k : ℕ} {hit : Option ℕ} → hit ≡ Some k → Searched D H places L root pair bound n (unwrap_or hit n) → Searched D H places L root pair bound n k
+hit_some {D} {H} {places} {L} {root} {pair} {bound} {n} e X = subst (λ o. Searched D H places L root pair bound n (unwrap_or o n)) e X
+
+pub hit_none : {D H places : List ℕ} {L root pair bound n : ℕ} {hit : Option ℕ} → hit ≡ None → Searched D H places L root pair bound n (unwrap_or hit n) → Searched D H places L root pair bound n n
+hit_none {D} {H} {places} {L} {root} {pair} {bound} {n} e X = subst (λ o. Searched D H places L root pair bound n (unwrap_or o n)) e X
 
 -- the arrays can be used again
 pub searched_ready : {D H seen places : List ℕ} {L root pair bound n k : ℕ} → Searched D H places L root pair bound n k → length H ≡ 256 → length seen ≡ 65536 → Clear seen → Ready D H seen places L

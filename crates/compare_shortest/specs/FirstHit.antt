@@ -11,6 +11,10 @@ pub record First (places H : List ℕ) (v m n r : ℕ) : Type 0 where
   pub before : (k : ℕ) → m ≤ k → k < r → ¬ Hit H v (node_of (at places k))
   pub found : r < n → Hit H v (node_of (at places r))
 
+-- no node has the pair 256
+pub first_nowhere : {places H : List ℕ} {m n : ℕ} → m ≤ n → First places H 256 m n n
+first_nowhere g = record { low = g; high = omega arith; before = λ k a b h. omega (arith, h.0); found = λ h. absurd (omega arith) }
+
 -- no place from m to k - 1 is that of a hit
 pub record Missed (places H : List ℕ) (v m n k : ℕ) : Type 0 where
   pub low : m ≤ k

@@ -17,5 +17,6 @@ pub mod FirstHit
 pub mod Explored
 pub mod ClosestLoop
 pub mod Choice
+pub mod Chosen
 pub mod ProductTables
 pub mod Product

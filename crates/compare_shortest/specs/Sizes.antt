@@ -1,6 +1,10 @@
 -- Sizes of the tables of a search, as src/lib.rt derives them from the automaton's bounds.
 use Rattle.std.specs.Prelude.{ℕ}
 
+-- pairs of states
+abbrev pub pair_count : ℕ
+pair_count = 256
+
 -- pairs of sets of marks
 abbrev pub hit_count : ℕ
 hit_count = 256

@@ -1,7 +1,8 @@
 // Of all places of the outer search, the one at which a loop makes the first word.
-ghost use Rattle.std.specs.Prelude.{◌^◌, ◌<◌, ◌≤◌, length};
+ghost use Rattle.std.specs.Prelude.{◌≡◌, ◌^◌, ◌<◌, ◌≤◌, length, MatchOption};
 ghost use Rattle.compare_shortest.specs.Workspace.{Ready};
-ghost use Rattle.compare_shortest.specs.Choice.{Choosing, Room, Better};
+ghost use Rattle.compare_shortest.specs.Choice.{Room};
+ghost use Rattle.compare_shortest.specs.Chosen.{Best};
 
 use crate::{closest, places};
 
@@ -12,7 +13,7 @@ pub struct Choice {
     pub total: usize,
 }
 
-// The first place with the least total; `count`, with the total `none`, where no loop of at most `bound` letters is a hit.
+// The first of `count` places with the least total, if there is a loop of at most `bound` letters that is a hit.
 pub fn choose(
     table: &[u16],
     hits: &[u8],
@@ -22,18 +23,13 @@ pub fn choose(
     count: usize,
     letters: usize,
     bound: usize,
-    none: usize,
-) -> Choice
+) -> Option<Choice>
     requires { Ready table.now hits.now seen.old inner.old letters × (count ≤ length outer.now) }
-    ensures choosing { Choosing table.now hits.now outer.now letters bound none count count result.place result.total }
+    ensures best { Best table.now hits.now outer.now letters bound count count result }
     ensures ready { Ready table.now hits.now seen.new inner.new letters }
 {
-    let mut best = Choice {
-        place: count,
-        total: none,
-    };
-    let mut i = 0;
-    while i < count {
+    let mut best = None;
+    for i in 0..count {
         let place = outer[i];
         let depth = places::depth(place);
         let most = room(best, depth, bound);
@@ -46,38 +42,23 @@ pub fn choose(
             places::node(place),
             most,
         );
-        best = better(best, i, depth, least);
-        i += 1;
+        if let Some(least) = least {
+            best = Some(Choice {
+                place: i,
+                total: depth + least,
+            });
+        }
     }
     best
 }
 
 // How long a loop at this depth may be to make a smaller total, and at most `bound`.
-pub fn room(best: Choice, depth: usize, bound: usize) -> usize
+pub fn room(best: Option<Choice>, depth: usize, bound: usize) -> usize
     requires { depth < 2 ^ 32 }
-    ensures { Room best.total depth bound result }
+    ensures { MatchOption best (result ≡ bound) (λ b. Room b.total depth bound result) }
 {
-    let total = best.total;
-    if total <= depth + 1 {
-        return 0;
-    }
-    let less = total - 1 - depth;
-    if less < bound {
-        return less;
-    }
-    bound
-}
-
-// The place i takes the place of the best, if there is a loop: it has the smaller total then.
-pub fn better(best: Choice, i: usize, depth: usize, least: usize) -> Choice
-    requires { (depth < 2 ^ 32) × (least < 2 ^ 32) }
-    ensures { Better best.place best.total i depth least result.place result.total }
-{
-    if least == 0 {
-        return best;
-    }
-    Choice {
-        place: i,
-        total: depth + least,
+    match best {
+        Some(best) => best.total.saturating_sub(depth + 1).min(bound),
+        None => bound,
     }
 }

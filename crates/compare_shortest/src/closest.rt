@@ -1,11 +1,12 @@
 // The shortest loop at a node that is a hit, and of the shortest the one that is smaller at the first difference.
-ghost use Rattle.std.specs.Prelude.{◌^◌, ◌<◌};
+ghost use Rattle.std.specs.Prelude.{◌^◌, ◌<◌, IfSome};
+ghost use Rattle.std.specs.Option.{unwrap_or};
 ghost use Rattle.compare_shortest.specs.Workspace.{Ready};
 ghost use Rattle.compare_shortest.specs.ClosestLoop.{LoopLength, LoopWritten};
 
 use crate::{MARKED, places, search, word};
 
-// The length of the loop, if it has at most `bound` letters; otherwise 0.
+// The length of the loop, if it has at most `bound` letters.
 pub fn loop_length(
     table: &[u16],
     hits: &[u8],
@@ -14,9 +15,10 @@ pub fn loop_length(
     letters: usize,
     node: u16,
     bound: usize,
-) -> usize
+) -> Option<usize>
     requires { Ready table.now hits.now seen.old places.old letters }
-    ensures loop_length { LoopLength table.now hits.now letters node bound result × (result < 2 ^ 32) }
+    ensures loop_length { LoopLength table.now hits.now letters node bound (unwrap_or result 0) }
+    ensures some { IfSome result (λ l. (0 < l) × (l < 2 ^ 32)) }
     ensures ready { Ready table.now hits.now seen.new places.new letters }
 {
     let stop = search::search(
@@ -26,14 +28,11 @@ pub fn loop_length(
         places,
         letters,
         node,
-        node / MARKED,
+        Some(node / MARKED),
         bound,
     );
-    let hit = stop.hit;
-    if hit == stop.count {
-        return 0;
-    }
-    places::depth(places[hit])
+    let hit = stop.hit?;
+    Some(places::depth(places[hit]))
 }
 
 // The same, and the loop itself in the front of `out`, if it fits there.
@@ -45,9 +44,10 @@ pub fn write_loop(
     letters: usize,
     node: u16,
     out: &mut [u8],
-) -> usize
+) -> Option<usize>
     requires { Ready table.now hits.now seen.old places.old letters }
-    ensures { LoopWritten table.now hits.now letters node out.old out.new result }
+    ensures written { LoopWritten table.now hits.now letters node out.old out.new (unwrap_or result 0) }
+    ensures some { IfSome result (λ l. 0 < l) }
 {
     let stop = search::search(
         table,
@@ -56,14 +56,11 @@ pub fn write_loop(
         places,
         letters,
         node,
-        node / MARKED,
+        Some(node / MARKED),
         out.len(),
     );
-    let hit = stop.hit;
-    if hit == stop.count {
-        return 0;
-    }
+    let hit = stop.hit?;
     let depth = places::depth(places[hit]);
     word::write_word(places, hit, depth, out);
-    depth
+    Some(depth)
 }

@@ -7,9 +7,6 @@ ghost use Rattle.compare_shortest.specs.Workspace.{Ready};
 
 use crate::{Verdict, choice, closest, places, search, word};
 
-// A pair that no node has.
-const NO_PAIR: u16 = crate::PAIRS as u16;
-
 // The word to the node goes by the table `plain`, and the loop by `table`. It is written into `prefix` and `cycle`, and only words
 // that fit them are looked for. `seen`, `outer` and `inner` are working space.
 pub fn first_lasso(
@@ -30,25 +27,22 @@ pub fn first_lasso(
 {
     let most = prefix.len();
     let bound = cycle.len();
-    let reached = search::search(plain, hits, seen, outer, letters, root, NO_PAIR, most);
-    let count = reached.count;
+    let reached = search::search(plain, hits, seen, outer, letters, root, None, most);
     let best = choice::choose(
         table,
         hits,
         seen,
         inner,
         outer,
-        count,
+        reached.count,
         letters,
         bound,
-        most + bound + 1,
     );
-    let i = best.place;
-    if i == count {
+    let Some(best) = best else {
         return Verdict::Same;
-    }
-    let place = outer[i];
-    let l = closest::write_loop(
+    };
+    let place = outer[best.place];
+    let written = closest::write_loop(
         table,
         hits,
         seen,
@@ -57,7 +51,8 @@ pub fn first_lasso(
         places::node(place),
         cycle,
     );
+    let l = written.unwrap();
     let p = places::depth(place);
-    word::write_word(outer, i, p, prefix);
+    word::write_word(outer, best.place, p, prefix);
     Verdict::Differ(p, l)
 }

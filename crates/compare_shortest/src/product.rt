@@ -22,13 +22,11 @@ pub fn fill(
     requires plain_len { (length plain.old ≡ step_count) × (length table.old ≡ step_count) }
     ensures { Tables next_a.now marks_a.now next_b.now marks_b.now plain.new table.new step_count }
 {
-    let mut i: usize = 0;
-    while i < STEPS {
+    for i in 0..STEPS {
         let next = pair(next_a, next_b, i);
         let marks = pair(marks_a, marks_b, i);
         plain[i] = next * MARKED;
         table[i] = next * MARKED + marks;
-        i += 1;
     }
 }
 

@@ -1,8 +1,9 @@
 // Breadth-first search in a graph that a table gives, until a hit is found or no word of the allowed length leads to a new node.
-ghost use Rattle.std.specs.Prelude.{◌≡◌, ◌↔◌, true, ℕ, ◌+◌, ◌-◌, ◌*◌, ◌^◌, ◌<◌, ◌≤◌, length, set};
+ghost use Rattle.std.specs.Prelude.{◌≡◌, ◌↔◌, true, ℕ, ◌+◌, ◌-◌, ◌*◌, ◌^◌, ◌<◌, ◌≤◌, length, set, IfSome};
+ghost use Rattle.std.specs.Option.{unwrap_or};
 ghost use Rattle.compare_shortest.specs.Graph.{at, succ, Hit};
 ghost use Rattle.compare_shortest.specs.Packing.{pack, node_of};
-ghost use Rattle.compare_shortest.specs.Sizes.{hit_count, step_count, node_count};
+ghost use Rattle.compare_shortest.specs.Sizes.{pair_count, hit_count, step_count, node_count};
 ghost use Rattle.compare_shortest.specs.Seen.{Clear, SeenAt};
 ghost use Rattle.compare_shortest.specs.Workspace.{Ready};
 ghost use Rattle.compare_shortest.specs.State.{State};
@@ -12,15 +13,15 @@ ghost use Rattle.compare_shortest.specs.Explored.{Explored, Searched};
 use crate::{HITS, MARKED, places};
 use automaton::Automaton;
 
-// Where a search stops: the first place of a hit, or `count` where there is none, and the number of places.
+// Where a search stops: the first place of a hit, if there is one, and the number of places.
 #[derive(Clone, Copy)]
 pub struct Stop {
-    pub hit: usize,
+    pub hit: Option<usize>,
     pub count: usize,
 }
 
-// The search from the root by words of at most `bound` letters, which stops at the first hit with the given pair. With one that no node
-// has all nodes are found.
+// The search from the root by words of at most `bound` letters, which stops at the first hit with the given pair. With none all nodes
+// are found.
 pub fn search(
     table: &[u16],
     hits: &[u8],
@@ -28,17 +29,17 @@ pub fn search(
     places: &mut [u64],
     letters: usize,
     root: u16,
-    pair: u16,
+    pair: Option<u16>,
     bound: usize,
 ) -> Stop
     requires { Ready table.now hits.now seen.old places.old letters }
-    ensures searched { Searched table.now hits.now places.new letters root pair bound result.count result.hit }
+    ensures searched { Searched table.now hits.now places.new letters root (unwrap_or pair pair_count) bound result.count (unwrap_or result.hit result.count) }
+    ensures within { IfSome result.hit (λ k. k < result.count) }
     ensures ready { Ready table.now hits.now seen.new places.new letters }
 {
     places[0] = root as u64;
     let stop = explore(table, hits, seen, places, letters, pair, bound);
-    let count = stop.count;
-    forget(seen, places, count);
+    forget(seen, places, stop.count);
     stop
 }
 
@@ -49,28 +50,38 @@ pub fn explore(
     seen: &mut [u8],
     places: &mut [u64],
     letters: usize,
-    pair: u16,
+    pair: Option<u16>,
     bound: usize,
 ) -> Stop
     requires state { State table.now seen.old places.old letters (node_of (at places.old 0)) 1 0 0 }
     requires hits_len { length hits.now ≡ hit_count }
-    ensures { Explored table.now hits.now seen.new places.new letters (node_of (at places.old 0)) pair bound result.count result.hit }
+    ensures explored { Explored table.now hits.now seen.new places.new letters (node_of (at places.old 0)) (unwrap_or pair pair_count) bound result.count
+        (unwrap_or result.hit result.count) }
+    ensures within { IfSome result.hit (λ k. k < result.count) }
 {
     let mut n = 1;
     let mut here = 0;
     while here < n {
         if bound <= places::depth(places[here]) {
-            return Stop { hit: n, count: n };
+            return Stop {
+                hit: None,
+                count: n,
+            };
         }
         let count = expand(table, seen, places, letters, here, n);
-        let hit = first_hit(places, hits, pair, n, count);
-        if hit < count {
-            return Stop { hit, count };
+        if let Some(hit) = first_hit(places, hits, pair, n, count) {
+            return Stop {
+                hit: Some(hit),
+                count,
+            };
         }
         n = count;
         here += 1;
     }
-    Stop { hit: n, count: n }
+    Stop {
+        hit: None,
+        count: n,
+    }
 }
 
 // All the edges from the place `here` are followed; the number of places then.
@@ -91,8 +102,7 @@ pub fn expand(
     let node = places::node(place);
     let depth = places::depth(place) + 1;
     let mut n = count;
-    let mut letter = 0;
-    while letter < letters {
+    for letter in 0..letters {
         let next = successor(table, node, letter);
         n = enter(
             seen,
@@ -102,12 +112,12 @@ pub fn expand(
             depth,
             n,
         );
-        letter += 1;
     }
     n
 }
 
 // The node that a letter leads to, with the marks of the step added.
+#[tactic(auto, unfolding(crate::specs::Graph::succ))]
 pub fn successor(table: &[u16], node: u16, letter: usize) -> u16
     requires { (length table.now ≡ step_count) × (letter < 16) }
     ensures { result ≡ succ table.now node letter }
@@ -136,19 +146,25 @@ pub fn enter(
     n + 1 - old
 }
 
-// The first place of a hit from `start` on, or `end` where there is none before it.
-pub fn first_hit(places: &[u64], hits: &[u8], pair: u16, start: usize, end: usize) -> usize
+// The first place of a hit from `start` on, if there is one before `end`; none where no pair is given.
+pub fn first_hit(
+    places: &[u64],
+    hits: &[u8],
+    pair: Option<u16>,
+    start: usize,
+    end: usize,
+) -> Option<usize>
     requires { (start ≤ end) × (end ≤ length places.now) × (length hits.now ≡ hit_count) }
-    ensures { First places.now hits.now pair start end result }
+    ensures first { First places.now hits.now (unwrap_or pair pair_count) start end (unwrap_or result end) }
+    ensures within { IfSome result (λ k. k < end) }
 {
-    let mut k = start;
-    while k < end {
+    let pair = pair?;
+    for k in start..end {
         if is_hit(hits, pair, places::node(places[k])) {
-            return k;
+            return Some(k);
         }
-        k += 1;
     }
-    end
+    None
 }
 
 // Whether a node has the pair, and marks at which the table of hits is not 0.
@@ -156,10 +172,7 @@ pub fn is_hit(hits: &[u8], pair: u16, node: u16) -> bool
     requires { length hits.now ≡ hit_count }
     ensures { (result ≡ true) ↔ Hit hits.now pair node }
 {
-    if node / MARKED != pair {
-        return false;
-    }
-    hits[(node % MARKED) as usize] != 0
+    node / MARKED == pair && hits[(node % MARKED) as usize] != 0
 }
 
 // The nodes at the places from 1 on count as not seen again.
@@ -167,10 +180,8 @@ pub fn forget(seen: &mut [u8], places: &[u64], count: usize)
     requires { SeenAt seen.old places.now 1 count × (count ≤ length places.now) }
     ensures { Clear seen.new }
 {
-    let mut k = 1;
-    while k < count {
+    for k in 1..count {
         let node = places::node(places[k]);
         seen[node as usize] = 0;
-        k += 1;
     }
 }

@@ -12,10 +12,8 @@ pub fn write_word(places: &[u64], place: usize, depth: usize, out: &mut [u8])
     requires { Chain (view places.now).edge (length places.now) depth place × (depth ≤ length out.old) }
     ensures { out.new ≡ back (view places.now).edge depth place ++ drop depth out.old }
 {
-    let mut left = depth;
     let mut k = place;
-    while 0 < left {
-        left -= 1;
+    for left in (0..depth).rev() {
         let edge = places::edge(places[k]);
         out[left] = (edge % Automaton::LETTERS) as u8;
         k = edge / Automaton::LETTERS;

@@ -15,30 +15,23 @@ use Rattle.encoding.specs.Clauses.{Assignment}
 use Rattle.clause_sizes.specs.declared.Target.{Target}
 use Rattle.clause_sizes.specs.Targets.{Proper}
 use Rattle.solver_text.specs.declared.Reader.{Reader}
-use Rattle.solver_text.specs.declared.Answer.{Answer}
-use Rattle.solver_text.specs.declared.Answer.TheVariants.{Accepted, Refused}
 use Rattle.solver_scan.specs.declared.Verdict.{Verdict}
 use Rattle.solver_scan.specs.declared.Verdict.TheVariants.{Unstated, Satisfiable, Unsatisfiable, Unknown as NotKnown}
 use Rattle.solver_text.specs.Calls.{InRange}
-use Rattle.decode.specs.declared.Answer.{Answer as Decision}
-use Rattle.decode.specs.declared.Answer.TheVariants.{Table, None, Unknown, Refused as TurnedDown}
+use Rattle.std.specs.Prelude.{Result, Ok, Err}
 use Rattle.decode.specs.declared.Decoded.{Decoded}
 use Rattle.decode.specs.Answers.{whole, Admitted, ByAssignment, ByVerdict, Decodes}
 use Rattle.decode.specs.Table.{AllStep, LowestWithout}
 use Rattle.decode.specs.Missing.{all_or_lowest}
 use Rattle.console_answers.proofs.Replies.{offset_refused}
 
-abbrev number : Decision → ℕ
-number Table = 0
-number None = 0
-number Unknown = 0
-number (TurnedDown x) = (code_of x).number
+abbrev number : Result Decoded Refusal → ℕ
+number (Ok d) = 0
+number (Err x) = (code_of x).number
 
-abbrev first : Decision → ℕ
-first Table = 0
-first None = 0
-first Unknown = 0
-first (TurnedDown x) = (code_of x).first
+abbrev first : Result Decoded Refusal → ℕ
+first (Ok d) = 0
+first (Err x) = (code_of x).first
 
 pub record ByText (a : Automaton) (τ : Target) (r : Reader) (f : Refusal) : Type 0 where
   pub valid : Valid a
@@ -46,15 +39,15 @@ pub record ByText (a : Automaton) (τ : Target) (r : Reader) (f : Refusal) : Typ
   pub sizes : Proper τ
   pub offset : (code_of f).first ≡ (whole a τ r).reader.scan.at
 
-module _ {p p' l l' : List ℕ} {x : Decoded} {a : Automaton} {τ : Target} {r : Reader} (d : Decodes p p' l l' x a τ r)
-    (f : Refusal) (is : x.answer ≡ TurnedDown f) (low : 9 ≤ (code_of f).number) (high : (code_of f).number ≤ 10) where
+module _ {p p' l l' : List ℕ} {x : Result Decoded Refusal} {a : Automaton} {τ : Target} {r : Reader} (d : Decodes p p' l l' x a τ r)
+    (f : Refusal) (is : x ≡ Err f) (low : 9 ≤ (code_of f).number) (high : (code_of f).number ≤ 10) where
   -- no answer with another number
-  other : (y : Decoded) → x ≡ y → (number y.answer < 9) ⊎ (10 < number y.answer) → ⊥
-  other y e (inl h) = let z : number y.answer ≡ (code_of f).number = ap (λ x. number x.answer) (sym e) ∙ ap number is in omega arith
-  other y e (inr h) = let z : number y.answer ≡ (code_of f).number = ap (λ x. number x.answer) (sym e) ∙ ap number is in omega arith
+  other : (y : Result Decoded Refusal) → x ≡ y → (number y < 9) ⊎ (10 < number y) → ⊥
+  other y e (inl h) = let z : number y ≡ (code_of f).number = ap number (sym e) ∙ ap number is in omega arith
+  other y e (inr h) = let z : number y ≡ (code_of f).number = ap number (sym e) ∙ ap number is in omega arith
 
-  same : (g : Refusal) (y : Decoded) → x ≡ y → y.answer ≡ TurnedDown g → (code_of f).first ≡ (code_of g).first
-  same g y e h = ap first (sym is ∙ ap (λ x. x.answer) e ∙ h)
+  same : (g : Refusal) (y : Result Decoded Refusal) → x ≡ y → y ≡ Err g → (code_of f).first ≡ (code_of g).first
+  same g y e h = ap first (sym is ∙ e ∙ h)
 
   no_table : (ν : Assignment) → ByAssignment p p' l l' x a τ ν → ⊥
   no_table ν b = go (all_or_lowest a τ ν)
@@ -70,9 +63,9 @@ module _ {p p' l l' : List ℕ} {x : Decoded} {a : Automaton} {τ : Target} {r :
     by_verdict t Unsatisfiable e b = other _ (b.none e).0 (inl (omega arith))
     by_verdict t NotKnown e b = other _ (b.unknown e).0 (inl (omega arith))
 
-    by_reply : Admitted p p' l l' x a τ r → (w : Answer) → (whole a τ r).answer ≡ w → ⊥
-    by_reply t Accepted e = by_verdict t _ refl (d.accepted t e)
-    by_reply t (Refused g) e = never (record {
+    by_reply : Admitted p p' l l' x a τ r → (w : Result (Unit {0}) Refusal) → (whole a τ r).answer ≡ w → ⊥
+    by_reply t (Ok _) e = by_verdict t _ refl (d.accepted t e)
+    by_reply t (Err g) e = never (record {
       valid = t.valid;
       in_range = t.in_range;
       sizes = t.sizes;

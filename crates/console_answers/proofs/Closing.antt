@@ -1,5 +1,5 @@
 -- Where the reader takes no more, what is told is a refusal.
-use mathlib.Core.Path.{◌≡◌, refl, sym, ap, ◌∙◌}
+use mathlib.Core.Path.{◌≡◌, refl, ap, ◌∙◌}
 use mathlib.Core.Bool.{true, false≢true}
 use mathlib.Core.List.{List}
 use Prim.Native.Nat.{ℕ, ◌≤◌}
@@ -13,29 +13,18 @@ use Rattle.clause_sizes.specs.declared.Target.{Target}
 use Rattle.clause_sizes.specs.Targets.{Proper, last, kept}
 use Rattle.compare.specs.Compared.{prefix_room, loop_room}
 use Rattle.solver_text.specs.declared.Reader.{Reader}
-use Rattle.solver_text.specs.declared.Answer.TheVariants.{Refused}
 use Rattle.solver_scan.specs.declared.Place.{Place as Spot}
 use Rattle.solver_scan.specs.declared.Place.TheVariants.{Start, Comment, AfterS, BeforeWord, Word, AfterWord, AfterToken, BeforeToken, AfterMinus, Digits, Ended, BadForm, BadLiteral}
 use Rattle.solver_scan.specs.Scanning.{refused_at}
 use Rattle.solver_text.specs.Machine.{answer_at, told}
-use Rattle.decode.specs.declared.Answer.{Answer as Decision}
-use Rattle.decode.specs.declared.Answer.TheVariants.{Table, None, Unknown, Refused as TurnedDown}
+use Rattle.std.specs.Prelude.{Result, Ok, Err}
 use Rattle.decode.specs.declared.Decoded.{Decoded}
 use Rattle.decode.specs.Answers.{Decodes}
 use Rattle.console_answers.specs.SoFar.{Closed}
 use Rattle.solver_agreement.specs.Staying.{refused_end}
 
-abbrev refusing : Decision → ℕ
-refusing Table = 0
-refusing None = 0
-refusing Unknown = 0
-refusing (TurnedDown f) = 1
-
-decided : {w : Decision} {f : Refusal} → refusing w ≡ 0 → w ≡ TurnedDown f → ⊥
-decided h e = let z : ◌≡◌ {A = ℕ} 0 1 = sym h ∙ ap refusing e in absurd (omega arith)
-
 -- the refusal at a refused place
-refusal_at : (s : Spot) (at : ℕ) → refused_at s ≡ true → (f : Refusal) × (answer_at s at ≡ Refused f)
+refusal_at : (s : Spot) (at : ℕ) → refused_at s ≡ true → (f : Refusal) × (answer_at s at ≡ Err f)
 unfolding answer_at refused_at
 refusal_at Start at e = absurd (false≢true e)
 refusal_at Comment at e = absurd (false≢true e)
@@ -51,32 +40,27 @@ refusal_at Ended at e = absurd (false≢true e)
 refusal_at BadForm at e = (SolverForm at, refl)
 refusal_at BadLiteral at e = (Literal at, refl)
 
-module _ {p p' l l' : List ℕ} {x : Decoded} {a : Automaton} {τ : Target} {r : Reader} (d : Decodes p p' l l' x a τ r) (c : Closed a τ r) where
-  module _ (never : (f : Refusal) → x.answer ≡ TurnedDown f → ⊥) where
+module _ {p p' l l' : List ℕ} {x : Result Decoded Refusal} {a : Automaton} {τ : Target} {r : Reader} (d : Decodes p p' l l' x a τ r) (c : Closed a τ r) where
+  module _ (never : (f : Refusal) → x ≡ Err f → ⊥) where
     by_call : prefix_room ≤ length p → loop_room ≤ length l → ⊥
     by_call h g =
-        never _ (ap (λ y. y.answer) (d.automaton h g (λ v.
-        never _ (ap (λ y. y.answer) (d.state h g (λ i.
-        never _ (ap (λ y. y.answer) (d.dimensions h g v i (λ s.
-        never _ (ap (λ y. y.answer) (d.acceptance h g v i s (λ o.
+        never _ ((d.automaton h g (λ v.
+        never _ ((d.state h g (λ i.
+        never _ ((d.dimensions h g v i (λ s.
+        never _ ((d.acceptance h g v i s (λ o.
         let z : Proper τ = record { dimensioned = s; sets_owned = o } in
         let (f, e) = refusal_at r.scan.place r.scan.at (c v z) in
-        never f (ap (λ y. y.answer) (d.text (record { prefix_room_fits = h; loop_room_fits = g; valid = v; in_range = i; sizes = z }) f
+        never f ((d.text (record { prefix_room_fits = h; loop_room_fits = g; valid = v; in_range = i; sizes = z }) f
         (ap (λ x. (told x).answer) (refused_end (last a τ) (kept a τ) r (c v z)) ∙ e)).0))).0))).0))).0))).0)
 
     by_room : Dec (prefix_room ≤ length p) → Dec (loop_room ≤ length l) → ⊥
-    by_room (no h) g = never _ (ap (λ y. y.answer) (d.short_prefix (omega arith)).0)
-    by_room (yes h) (no g) = never _ (ap (λ y. y.answer) (d.short_loop h (omega arith)).0)
+    by_room (no h) g = never _ (d.short_prefix (omega arith)).0
+    by_room (yes h) (no g) = never _ (d.short_loop h (omega arith)).0
     by_room (yes h) (yes g) = by_call h g
 
-  pub closed_refusal : (f : Refusal) × (x.answer ≡ TurnedDown f)
-  closed_refusal = go x.answer refl
+  pub closed_refusal : (f : Refusal) × (x ≡ Err f)
+  closed_refusal = go x refl
     where
-      answered : refusing x.answer ≡ 0 → ⊥
-      answered h = by_room (λ f. decided h) (dec_le prefix_room (length p)) (dec_le loop_room (length l))
-
-      go : (w : Decision) → x.answer ≡ w → (f : Refusal) × (x.answer ≡ TurnedDown f)
-      go Table e = absurd (answered (ap refusing e))
-      go None e = absurd (answered (ap refusing e))
-      go Unknown e = absurd (answered (ap refusing e))
-      go (TurnedDown f) e = (f, e)
+      go : (w : Result Decoded Refusal) → x ≡ w → (f : Refusal) × (x ≡ Err f)
+      go (Ok y) e = absurd (by_room (λ f is. cc) (dec_le prefix_room (length p)) (dec_le loop_room (length l)))
+      go (Err f) e = (f, e)

@@ -1,5 +1,5 @@
 -- The place of a refusal's offset in the text, from the place at which the last piece begins.
-use mathlib.Core.Path.{◌≡◌, sym, ap, ◌∙◌}
+use mathlib.Core.Path.{◌≡◌, refl, sym, ap, ◌∙◌}
 use mathlib.Core.Logic.{inl, inr}
 use mathlib.Core.Bool.{cond}
 use mathlib.Core.List.{List, [], ◌++◌, append-nil}
@@ -9,15 +9,26 @@ use native.Mathlib.Omega.{arith}
 use borrow.Author.Tests.{le-ltb}
 use lib.ListN.{length, take, drop, take-append-drop, length-drop}
 use lib.Seq.{length-take-le, take-take, take-length, take-nil, take-append-le}
+use Rattle.std.specs.Prelude.{Option, Some, None}
 use Rattle.console_places.specs.declared.Place.{Place}
 use Rattle.console_places.specs.Places.{first, after, place_of, back, within}
 use Rattle.console_places.specs.PlaceLaws.{place_counts, after_append, within_piece, within_line}
 use Rattle.console_answers.proofs.Offsets.{From}
 
+same_byte : (x y : Option ℕ) → Dec (x ≡ y)
+same_byte None None = yes refl
+same_byte None (Some b) = no (λ e. cc)
+same_byte (Some a) None = no (λ e. cc)
+same_byte (Some a) (Some b) = go (ℕ_discrete a b)
+  where
+    go : Dec (a ≡ b) → Dec (Some a ≡ Some b)
+    go (yes e) = yes (ap (λ n. Some n) e)
+    go (no n) = no (λ e. n cc)
+
 -- two places are the same, unless they are not
 pub place_stable : (p q : Place) → ¬ ¬ (p ≡ q) → p ≡ q
 place_stable p q h =
-    go (ℕ_discrete p.offset q.offset) (ℕ_discrete p.line q.line) (ℕ_discrete p.column q.column) (ℕ_discrete p.byte q.byte)
+    go (ℕ_discrete p.offset q.offset) (ℕ_discrete p.line q.line) (ℕ_discrete p.column q.column) (same_byte p.byte q.byte)
   where
     go : Dec (p.offset ≡ q.offset) → Dec (p.line ≡ q.line) → Dec (p.column ≡ q.column) → Dec (p.byte ≡ q.byte) → p ≡ q
     go (yes o) (yes l) (yes c) (yes b) = λ i. record { offset = o i; line = l i; column = c i; byte = b i }

@@ -1,48 +1,23 @@
--- What an answer of the reader or the decoder says: what is held after it, and the offset of a refusal.
-use mathlib.Core.Path.{◌≡◌, refl, sym, ap, ◌∙◌}
+-- What an answer of the reader says: a refusal, and the offset that the reader carries.
+use mathlib.Core.Path.{◌≡◌, refl, sym, ap}
 use mathlib.Core.Bool.{true, false}
-use mathlib.Core.List.{List}
 use Prim.Native.Nat.{ℕ}
-use native.Mathlib.Omega.{arith}
 use Rattle.refusals.specs.declared.Refusal.{Refusal}
 use Rattle.refusals.specs.Refused.{code_of}
-use Rattle.solver_text.specs.declared.Reader.{Reader}
-use Rattle.solver_text.specs.declared.Answer.{Answer}
-use Rattle.solver_text.specs.declared.Answer.TheVariants.{Accepted, Refused}
+use Rattle.std.specs.Prelude.{Result, Ok, Err}
 use Rattle.solver_scan.specs.declared.Place.{Place as Spot}
 use Rattle.solver_scan.specs.declared.Place.TheVariants.{Start, Comment, AfterS, BeforeWord, Word, AfterWord, AfterToken, BeforeToken, AfterMinus, Digits, Ended, BadForm, BadLiteral}
 use Rattle.solver_scan.specs.Scanning.{refused_at}
 use Rattle.solver_text.specs.Machine.{answer_at}
-use Rattle.console_places.specs.declared.Place.{Place}
-use Rattle.console_places.specs.Places.{after, within}
-use Rattle.console_answers.specs.declared.Heard.{Heard}
-use Rattle.console_answers.specs.SoFar.{heard_of}
 
--- ---- what is held after a reply
+abbrev first : Result (Unit {0}) Refusal → ℕ
+first (Ok _) = 0
+first (Err x) = (code_of x).first
 
-module _ (p : Place) (u : List ℕ) (r : Reader) (q : Place) where
-  pub accepted_heard : (w : Answer) → w ≡ Accepted → q ≡ after p u
-      → Path Heard (record { more = true; whole = true; reader = r; place = q }) (heard_of p u w r)
-  accepted_heard w t e = ap (λ (x : Place). record { more = true; whole = true; reader = r; place = x }) e ∙ ap (λ w. heard_of p u w r) (sym t)
+pub accepted_refused : {w : Result (Unit {0}) Refusal} {x : Refusal} {P : Type 0} → w ≡ Ok tt → w ≡ Err x → P
+accepted_refused e f = cc
 
-  pub refused_heard : (w : Answer) (x : Refusal) → w ≡ Refused x → q ≡ within p u (code_of x).first
-      → Path Heard (record { more = false; whole = true; reader = r; place = q }) (heard_of p u w r)
-  refused_heard w x t e = ap (λ (x : Place). record { more = false; whole = true; reader = r; place = x }) e ∙ ap (λ w. heard_of p u w r) (sym t)
-
--- ---- a refusal, and the offset that a reader carries
-
-abbrev refused : Answer → ℕ
-refused Accepted = 0
-refused (Refused x) = 1
-
-abbrev first : Answer → ℕ
-first Accepted = 0
-first (Refused x) = (code_of x).first
-
-pub accepted_refused : {w : Answer} {x : Refusal} {P : Type 0} → w ≡ Accepted → w ≡ Refused x → P
-accepted_refused e f = let z : ◌≡◌ {A = ℕ} 0 1 = ap refused (sym e ∙ f) in absurd (omega arith)
-
-pub offset_refused : (s : Spot) (at : ℕ) (x : Refusal) → answer_at s at ≡ Refused x → (refused_at s ≡ true) × ((code_of x).first ≡ at)
+pub offset_refused : (s : Spot) (at : ℕ) (x : Refusal) → answer_at s at ≡ Err x → (refused_at s ≡ true) × ((code_of x).first ≡ at)
 unfolding answer_at refused_at
 offset_refused Start at x e = accepted_refused refl e
 offset_refused Comment at x e = accepted_refused refl e
@@ -58,7 +33,7 @@ offset_refused Ended at x e = accepted_refused refl e
 offset_refused BadForm at x e = (refl, sym (ap first e))
 offset_refused BadLiteral at x e = (refl, sym (ap first e))
 
-pub unrefused : (s : Spot) (at : ℕ) → answer_at s at ≡ Accepted → refused_at s ≡ false
+pub unrefused : (s : Spot) (at : ℕ) → answer_at s at ≡ Ok tt → refused_at s ≡ false
 unfolding answer_at refused_at
 unrefused Start at e = refl
 unrefused Comment at e = refl

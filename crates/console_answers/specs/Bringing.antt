@@ -1,9 +1,8 @@
 -- Laws of the calls that bring a text: one piece more, the end, and how many bytes.
-use Rattle.std.specs.Prelude.{◌≡◌, refl, Bool, List, [], ◌∷◌, ◌++◌, ℕ, zero, suc, ◌+◌, ◌≤◌, ◌<◌, ℤ, pos, negsuc, length}
-use Rattle.std.proofs.Common.{sym, ap, ◌∙◌, subst, arith, length-append}
+use Rattle.std.specs.Prelude.{◌≡◌, refl, Bool, true, false, List, [], ◌∷◌, ◌++◌, ℕ, ◌+◌, ◌≤◌, ◌<◌, ℤ, pos, negsuc, length, Some, None}
+use Rattle.std.proofs.Common.{arith, length-append}
 use Rattle.solver_text.specs.Calls.{joined}
-use Rattle.console_read.specs.declared.Got.{Got}
-use Rattle.console_read.specs.Got.{told, ReadOnce}
+use Rattle.console_read.specs.Counts.{told, ReadOnce}
 use Rattle.console_answers.specs.FromPieces.{Brings, ends, fails, early, brings}
 
 -- the calls so far, each of which brought a piece
@@ -27,12 +26,15 @@ brought_all none e = e.brings
 brought_all (some u h l b) e = brings u h l (brought_all b e)
 
 -- a call that brought nothing is the last
-pub last_call : {refused : Type 0} {room : ℕ} {g : Got} → ReadOnce room g → g.length ≡ 0 → Last refused g.whole
-last_call {refused} {room} {g} o e = subst (λ (b : Got). Last refused b.whole) (sym o.is) (go o.answer (sym (ap (λ (b : Got). b.length) o.is) ∙ e))
+pub last_call : {refused : Type 0} {room k : ℕ} → ReadOnce room (Some k) → k ≡ 0 → Last refused true
+last_call o e = record { answers = pos 0 ∷ []; brings = ends }
+
+-- and so is one that failed
+pub failed_call : {refused : Type 0} {room : ℕ} → ReadOnce room None → Last refused false
+failed_call {refused} o = go o.answer o.is
   where
-    go : (z : ℤ) → (told z).length ≡ 0 → Last refused (told z).whole
-    go (pos zero) e = record { answers = pos 0 ∷ []; brings = ends }
-    go (pos (suc k)) e = absurd (omega (arith, e))
+    go : (z : ℤ) → None ≡ told z → Last refused false
+    go (pos k) e = cc
     go (negsuc k) e = record { answers = negsuc k ∷ []; brings = fails k }
 
 pub last_refused : {R S : Type 0} {w : Bool} → (R → S) → Last R w → Last S w

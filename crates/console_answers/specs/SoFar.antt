@@ -1,28 +1,40 @@
 -- The text so far, as the functions that read it promise it.
-use Rattle.std.specs.Prelude.{◌≡◌, Bool, true, false, List, [], ◌∷◌, ℕ, ◌≤◌, ◌<◌, ℤ, length}
+use Rattle.std.specs.Prelude.{◌≡◌, Bool, true, false, List, [], ◌∷◌, ℕ, ◌≤◌, ◌<◌, ℤ, length, Result, Ok, Err}
 use Rattle.automaton.specs.declared.Automaton.{Automaton}
+use Rattle.refusals.specs.declared.Refusal.{Refusal}
 use Rattle.refusals.specs.Refused.{code_of}
 use Rattle.automaton.specs.Value.{Valid}
 use Rattle.clause_sizes.specs.declared.Target.{Target}
 use Rattle.clause_sizes.specs.Targets.{Proper, kept, last}
 use Rattle.solver_text.specs.declared.Reader.{Reader}
 use Rattle.solver_text.specs.declared.Reply.{Reply}
-use Rattle.solver_text.specs.declared.Answer.{Answer}
-use Rattle.solver_text.specs.declared.Answer.TheVariants.{Accepted, Refused}
 use Rattle.solver_scan.specs.Scanning.{refused_at}
 use Rattle.solver_text.specs.Machine.{fresh, told, run}
 use Rattle.solver_text.specs.Calls.{Called, Reads, joined}
-use Rattle.decode.specs.declared.Answer.{Answer as Decision}
-use Rattle.decode.specs.declared.Answer.TheVariants.{Table, None, Unknown, Refused as TurnedDown}
+use Rattle.decode.specs.declared.Decoded.{Decoded}
 use Rattle.console_places.specs.declared.Place.{Place}
 use Rattle.console_places.specs.Places.{after, within, place_of}
 use Rattle.console_answers.specs.declared.Heard.{Heard}
+use Rattle.console_answers.specs.declared.Stage.{Stage}
+use Rattle.console_answers.specs.declared.Stage.TheVariants.{More, Whole, Failed}
 use Rattle.console_answers.specs.Bringing.{Brought, Last}
 
+-- more of the text may come
+abbrev pub more : Stage → Bool
+more More = true
+more Whole = false
+more Failed = false
+
+-- no call failed
+abbrev pub whole : Stage → Bool
+whole More = true
+whole Whole = true
+whole Failed = false
+
 -- what is held after a reply to the piece u, which begins at p
-abbrev pub heard_of : Place → List ℕ → Answer → Reader → Heard
-heard_of p u Accepted r = record { more = true; whole = true; reader = r; place = after p u }
-heard_of p u (Refused x) r = record { more = false; whole = true; reader = r; place = within p u (code_of x).first }
+abbrev pub heard_of : Place → List ℕ → Result (Unit {0}) Refusal → Reader → Heard
+heard_of p u (Ok _) r = record { stage = More; reader = r; place = after p u }
+heard_of p u (Err x) r = record { stage = Whole; reader = r; place = within p u (code_of x).first }
 
 module _ (a : Automaton) (τ : Target) where
   -- a call with the piece u
@@ -33,7 +45,7 @@ module _ (a : Automaton) (τ : Target) where
 
   -- the end of the input, or a piece that is not empty
   pub data Goes (h k : Heard) : Type 0 where
-    ends : (w : Bool) → Last ⊥ w → k ≡ record { more = false; whole = w; reader = h.reader; place = h.place } → Goes h k
+    ends : (s : Stage) → more s ≡ false → Last ⊥ (whole s) → k ≡ record { stage = s; reader = h.reader; place = h.place } → Goes h k
     goes : (u : List ℕ) → 0 < length u → length u ≤ 65536 → Hears h.reader h.place u k → Goes h k
 
   -- no call with this reader is accepted any more
@@ -47,14 +59,12 @@ module _ (a : Automaton) (τ : Target) where
     pub empty_first : pieces ≡ [] ∷ brought_pieces
     pub answers : List ℤ
     pub brought : Brought answers brought_pieces
-    pub last : h.more ≡ false → Last (Closed h.reader) h.whole
+    pub last : more h.stage ≡ false → Last (Closed h.reader) (whole h.stage)
     pub reads : Reads a τ fresh pieces h.reader
-    pub accepted : h.more ≡ true → ¬ ¬ (Valid a × Proper τ × (refused_at h.reader.scan.place ≡ false))
+    pub accepted : more h.stage ≡ true → ¬ ¬ (Valid a × Proper τ × (refused_at h.reader.scan.place ≡ false))
     pub placed : Valid a → Proper τ → h.place ≡ place_of (joined pieces) h.reader.scan.at
 
 -- the place of a refusal at the end of the text, behind which `nothing` comes
-abbrev pub ended_at : Decision → Place → List ℕ → Place
-ended_at Table p nothing = p
-ended_at None p nothing = p
-ended_at Unknown p nothing = p
-ended_at (TurnedDown x) p nothing = within p nothing (code_of x).first
+abbrev pub ended_at : Result Decoded Refusal → Place → List ℕ → Place
+ended_at (Ok d) p nothing = p
+ended_at (Err x) p nothing = within p nothing (code_of x).first

@@ -5,28 +5,27 @@ ghost use Rattle.std.specs.Prelude.{◌≡◌, false};
 ghost use Rattle.refusals.specs.Refused.{code_of};
 ghost use Rattle.console_places.specs.Places.{within};
 ghost use Rattle.console_answers.specs.FromPieces.{FromPieces};
-ghost use Rattle.console_answers.specs.SoFar.{Hears, Goes, SoFar, ended_at};
+ghost use Rattle.console_answers.specs.SoFar.{Hears, Goes, SoFar, more, ended_at};
 
 use automaton::Automaton;
 use clause_sizes::Target;
 use console_places::Place;
 use console_places::part::first;
-use console_read::{large_buffer, read_some};
+use console_read::{PIECE, read_some};
 use decode::{Decoded, decode};
 use refusals::Refusal;
-use solver_text::{Answer, Reader};
+use solver_text::Reader;
 use std::io::Read;
 
-// What was decoded. Where the text could not be read, it is not whole, and standard error has the reason. Of a text that was
-// refused, `place` is that of the refusal's offset.
+// What was decoded. Of a text that was refused, `place` is that of the refusal's offset.
 #[derive(Clone, Copy)]
 pub struct Told {
-    pub whole: bool,
-    pub decoded: Decoded,
+    pub decoded: Result<Decoded, Refusal>,
     pub place: Place,
 }
 
-// Reads to the end, or until the text is refused, and decodes. The first word that shows a difference is written into `prefix` and `cycle`.
+// Reads to the end, or until the text is refused, and decodes. Where a call failed, standard error has the reason, and the error is what the pieces before it make. The first
+// word that shows a difference is written into `prefix` and `cycle`.
 pub fn read<R: Read>(
     rt: &HostRuntime,
     file: &mut R,
@@ -35,28 +34,26 @@ pub fn read<R: Read>(
     target: Target,
     prefix: &mut [u8],
     cycle: &mut [u8],
-) -> Told
+) -> Result<Told, Told>
     ensures { FromPieces prefix.old prefix.new cycle.old cycle.new result reference target }
 {
     let heard = hear_all(rt, file, name, reference, target);
-    let reader = heard.reader;
-    let place = heard.place;
-    let decoded = decode(reference, target, reader, prefix, cycle);
-    let answer = decoded.answer;
-    Told {
-        whole: heard.whole,
-        decoded,
-        place: ended(answer, place, first(name, 0)),
+    let decoded = decode(reference, target, heard.reader, prefix, cycle);
+    let place = ended(decoded, heard.place, first(name, 0));
+    let told = Told { decoded, place };
+    match heard.stage {
+        Stage::Failed => Err(told),
+        _ => Ok(told),
     }
 }
 
 // The place of a refusal at the end of the text, behind which nothing comes.
-fn ended(answer: decode::Answer, place: Place, nothing: &[u8]) -> Place
-    ensures { result ≡ ended_at answer place nothing.now }
+fn ended(decoded: Result<Decoded, Refusal>, place: Place, nothing: &[u8]) -> Place
+    ensures { result ≡ ended_at decoded place nothing.now }
 {
-    match answer {
-        decode::Answer::Refused(x) => refused_at(x, place, nothing),
-        _ => place,
+    match decoded {
+        Ok(_) => place,
+        Err(x) => refused_at(x, place, nothing),
     }
 }
 
@@ -68,11 +65,18 @@ fn refused_at(x: Refusal, place: Place, piece: &[u8]) -> Place
     place.within(piece, code.first)
 }
 
+// Whether more of the text may come; where nothing more comes, whether it is whole.
+#[derive(Clone, Copy)]
+enum Stage {
+    More,
+    Whole,
+    Failed,
+}
+
 // The text so far.
 #[derive(Clone, Copy)]
 struct Heard {
-    more: bool,
-    whole: bool,
+    stage: Stage,
     reader: Reader,
     place: Place,
 }
@@ -87,7 +91,7 @@ fn hear_all<R: Read>(
     target: Target,
 ) -> Heard
     ensures so_far { SoFar reference target result }
-    ensures over { result.more ≡ false }
+    ensures over { more result.stage ≡ false }
 {
     let mut heard = hear(
         Reader::fresh(),
@@ -96,7 +100,7 @@ fn hear_all<R: Read>(
         target,
         first(name, 0),
     );
-    while heard.more {
+    while let Stage::More = heard.stage {
         heard = hear_some(rt, heard, file, name, reference, target);
     }
     heard
@@ -113,37 +117,36 @@ fn hear_some<R: Read>(
 ) -> Heard
     ensures { Goes reference target heard result }
 {
-    let reader = heard.reader;
-    let place = heard.place;
-    let mut piece = large_buffer();
-    let got = read_some(rt, file, name, &mut piece);
-    if got.length == 0 {
-        return Heard {
-            more: false,
-            whole: got.whole,
-            reader,
-            place,
-        };
+    let mut piece = [0u8; PIECE];
+    match read_some(rt, file, name, &mut piece) {
+        None => Heard {
+            stage: Stage::Failed,
+            ..heard
+        },
+        Some(0) => Heard {
+            stage: Stage::Whole,
+            ..heard
+        },
+        Some(length) => {
+            let piece = first(&piece, length);
+            hear(heard.reader, heard.place, reference, target, piece)
+        }
     }
-    hear(reader, place, reference, target, first(&piece, got.length))
 }
 
 fn hear(reader: Reader, place: Place, reference: Automaton, target: Target, piece: &[u8]) -> Heard
     ensures { Hears reference target reader place piece.now result }
 {
     let reply = reader.read(reference, target, piece);
-    let answer = reply.answer;
     let reader = reply.reader;
-    match answer {
-        Answer::Accepted => Heard {
-            more: true,
-            whole: true,
+    match reply.answer {
+        Ok(()) => Heard {
+            stage: Stage::More,
             reader,
             place: place.after(piece),
         },
-        Answer::Refused(x) => Heard {
-            more: false,
-            whole: true,
+        Err(x) => Heard {
+            stage: Stage::Whole,
             reader,
             place: refused_at(x, place, piece),
         },

@@ -1,24 +1,22 @@
 -- The file, or its refusal.
-use mathlib.Core.Path.{◌≡◌, refl, sym, ap, ap₂, ◌∙◌, subst}
-use mathlib.Core.Bool.{false}
-use mathlib.Core.Option.{Option, some}
+use mathlib.Core.Path.{◌≡◌, refl, sym, ap, ap₂, ◌∙◌}
+use Rattle.std.specs.Prelude.{Result, Ok, Err}
+use mathlib.Core.Option.{Option}
 use Prim.Native.Nat.{ℕ, ◌+◌}
 use lib.ListN.{length, length-append}
 use Rattle.automaton.specs.declared.Automaton.{Automaton}
 use Rattle.refusals.specs.declared.Code.{Code}
 use Rattle.refusals.specs.declared.Refusal.{Refusal}
-use Rattle.refusals.specs.Refused.{code_of}
 use Rattle.automaton.specs.Value.{Valid}
 use Rattle.clause_sizes.specs.declared.Target.{Target}
 use Rattle.clause_sizes.specs.Targets.{Proper}
 use Rattle.clause_sizes.specs.Sizes.{Refuses, outside, dimensions, past_sets}
 use Rattle.clause_header.specs.declared.Totals.{Totals}
-use Rattle.clause_header.specs.declared.Totals.TheVariants.{Of, Refused}
 use Rattle.clause_header.specs.Header.{Headed}
 use Rattle.clause_text.specs.Batches.{all_bytes}
 use Rattle.console_report.specs.Lines.{header_line, refused_line}
 use Rattle.console_clauses.specs.declared.Printout.{Printout}
-use Rattle.console_print.specs.declared.Printed.{Printed}
+use Rattle.console_clauses.specs.declared.Printout.TheVariants.{Refused}
 use Rattle.console_print.specs.Handed.{Hands}
 use Rattle.console_clauses.specs.Prints.{header_text, HandsFile}
 use Rattle.console_clauses.specs.Batch.{HandsBehind}
@@ -40,28 +38,22 @@ module _ {a : Automaton} {τ : Target} where
   one_refusal (past_sets v d h) (dimensions w k) = absurd (k d)
   one_refusal (past_sets v d h) (past_sets w e k) = refl
 
-  module _ (t : Totals) (h : Headed a τ t) where
-    pub admitted : {last count : ℕ} → t ≡ Of last count → Valid a × Proper τ
-    admitted e = let (v, z, k) = subst (Headed a τ) e h in (v, z)
+  -- the header, and what comes behind it
+  pub file_handed : {t : Totals} {header : Result ℕ ℕ} {r : Printout} → Headed a τ (Ok t) → Hands (header_line t.variables t.clauses) header → HandsBehind a τ header r
+      → HandsFile a τ r
+  file_handed (v, z, k) g f =
+      let first = g ∙ ap₂ (λ x y. length (header_line x y)) k.0 k.1 in
+      record {
+        file = λ _ _. record {
+          calls = f.calls;
+          called = f.called;
+          bytes = f.bytes ∙ ap (λ l. l + length (all_bytes f.calls)) first ∙ sym (length-append (header_text a τ) (all_bytes f.calls));
+          accepted = f.accepted;
+          whole_is = f.whole_is;
+          stops = λ e. f.stops (sym f.headed_is ∙ e);
+        };
+        refused = λ g j. absurd (accepted_not v z j);
+      }
 
-    pub file_handed : {last count : ℕ} {header : Printed} {r : Printout} → t ≡ Of last count → Hands (header_line last count) header → HandsBehind a τ header r
-        → HandsFile a τ r
-    file_handed e g f =
-        let (v, z, k) = subst (Headed a τ) e h in
-        let first = g ∙ ap₂ (λ x y. length (header_line x y)) k.0 k.1 in
-        record {
-          file = λ _ _. record {
-            calls = f.calls;
-            called = f.called;
-            bytes = f.bytes ∙ ap (λ l. l + length (all_bytes f.calls)) first ∙ sym (length-append (header_text a τ) (all_bytes f.calls));
-            accepted = f.accepted;
-            whole = f.whole;
-            stops = λ e. f.stops (sym f.headed ∙ e);
-          };
-          refused = λ g j. absurd (accepted_not v z j);
-        }
-
-    pub refusal_handed : {f : Refusal} {r : Printout} → t ≡ Refused f → (r.whole ≡ false) × (r.bytes ≡ length (refused_line f)) → HandsFile a τ r
-    refusal_handed {f} {r} e (w, b) =
-        let k : Refuses a τ f (some (code_of f)) = subst (Headed a τ) e h in
-        record { file = λ v z. absurd (accepted_not v z k); refused = λ g j. (w, b ∙ ap (λ x. length (refused_line x)) (one_refusal k j)) }
+  pub refusal_handed : {f : Refusal} {r : Printout} → Headed a τ (Err f) → r ≡ Refused (length (refused_line f)) → HandsFile a τ r
+  refusal_handed {f} k e = record { file = λ v z. absurd (accepted_not v z k); refused = λ g j. e ∙ ap (λ x. Refused (length (refused_line x))) (one_refusal k j) }

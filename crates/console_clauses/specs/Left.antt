@@ -1,6 +1,6 @@
 -- The clauses that are left from a position on. Each batch of lines leaves fewer, so that the batches end.
-use Rattle.std.specs.Prelude.{◌≡◌, List, ℕ, zero, suc, ◌+◌, ◌*◌, ◌-◌, ◌≤◌, ◌<◌, ℤ, length, take}
-use Rattle.std.proofs.Common.{ap, subst, arith, length-drop, length-append}
+use Rattle.std.specs.Prelude.{List, ℕ, zero, suc, ◌+◌, ◌*◌, ◌-◌, ◌≤◌, ◌<◌, ℤ, length, take, Some}
+use Rattle.std.proofs.Common.{ap, arith, length-drop, length-append}
 use Rattle.automaton.specs.declared.Automaton.{Automaton}
 use Rattle.automaton.specs.Value.{Valid}
 use Rattle.encoding.specs.Clauses.{each}
@@ -11,10 +11,8 @@ use Rattle.clause_sizes.specs.Targets.{Proper, task, numbers}
 use Rattle.clause_list.specs.Next.{clauses_from}
 use Rattle.clause_step.specs.Step.{last_position}
 use Rattle.clause_step.specs.Range.{positions_le}
-use Rattle.clause_step.specs.declared.Answer.TheVariants.{Written}
-use Rattle.clause_step.specs.declared.Handed.{Handed}
 use Rattle.clause_words.specs.Text.{lines_text}
-use Rattle.clause_text.specs.Answers.{BatchAnswers, BatchStepped}
+use Rattle.clause_text.specs.Answers.{BatchFound}
 
 abbrev from : Automaton → Target → ℕ → List (List ℤ)
 from a τ x = clauses_from (task a τ) (numbers a τ) x
@@ -27,14 +25,10 @@ some_lines : (count : ℕ) (cs : List (List ℤ)) → 1 ≤ length (lines_text (
 some_lines zero cs h = h
 some_lines (suc count) cs h = omega arith
 
-pub fewer_left : (a : Automaton) (τ : Target) (x : ℕ) (d e : List ℕ) (r : Handed) (k : ℕ) → BatchStepped a τ x d e r → r.answer ≡ Written k
-    → left a τ r.position < left a τ x
-fewer_left a τ x d e r k s is = go (subst (λ w. BatchAnswers a τ x d e w r.position) is s)
-  where
-    go : BatchAnswers a τ x d e (Written k) r.position → left a τ r.position < left a τ x
-    go (ok, (f, h)) =
-        let some : 1 ≤ f.lines.count = some_lines f.lines.count (from a τ x) (omega (arith, f.lines.text.next)) in
-        omega (arith, some, f.lines.there, ap length f.lines.next, length-drop f.lines.count (from a τ x))
+pub fewer_left : (a : Automaton) (τ : Target) (x : ℕ) (d e : List ℕ) (k y : ℕ) → BatchFound a τ x d e (Some k) y → left a τ y < left a τ x
+fewer_left a τ x d e k y (f, h) =
+    let some : 1 ≤ f.lines.count = some_lines f.lines.count (from a τ x) (omega (arith, f.lines.text.next)) in
+    omega (arith, some, f.lines.there, ap length f.lines.next, length-drop f.lines.count (from a τ x))
 
 -- no file has more clauses than positions
 each_le : (k : ℕ) (f : ℕ → List (List ℤ)) → ((i : ℕ) → length (f i) ≤ 1) → length (each k f) ≤ k

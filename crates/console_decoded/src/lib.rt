@@ -8,20 +8,19 @@ ghost use Rattle.console_decoded.specs.Behind.{HandsBehind};
 
 use automaton::Automaton;
 use clause_sizes::Target;
-use compare::Comparison;
+use compare::{LOOP, PREFIX};
 use console_lines::refuse;
 use console_places::Place;
-use console_print::{Printed, print};
+use console_print::{handed, print};
 use console_results::{print_automaton, print_word};
-use decode::{Answer, Decoded};
-use hoa_write::Written;
+use decode::Decoded;
 use refusals::Refusal;
 
-// How many bytes were handed over to the output: those of the answer, and behind them those of the two lines of a word.
+// How many bytes were handed over to the output: those of the answer, and behind them those of the two lines of a word, if there is one.
 #[derive(Clone, Copy)]
 pub struct Output {
     pub answer: usize,
-    pub word: usize,
+    pub word: Option<usize>,
 }
 
 // Decodes the solver's output on standard input, compared with the reference, and prints the answer. Of an input that could not be read nothing is printed; standard error
@@ -34,8 +33,8 @@ pub fn decode_input(
 ) -> Output
     ensures { HandsInput reference target result }
 {
-    let mut prefix = [0u8; Comparison::PREFIX];
-    let mut cycle = [0u8; Comparison::LOOP];
+    let mut prefix = [0u8; PREFIX];
+    let mut cycle = [0u8; LOOP];
     let mut input = rt.stdin();
     let told = console_answers::read(
         rt,
@@ -46,31 +45,28 @@ pub fn decode_input(
         &mut prefix,
         &mut cycle,
     );
-    if !told.whole {
-        return unworded(0);
+    match told {
+        Ok(told) => print_decoded(rt, told.decoded, told.place, program, &prefix, &cycle),
+        Err(_) => unworded(0),
     }
-    let decoded = told.decoded;
-    let place = told.place;
-    print_decoded(rt, decoded, place, program, &prefix, &cycle)
 }
 
 // Prints the table as HOA text, `none`, `unknown`, or the refusal of an input whose place is given, and the word that stands in the two buffers.
 pub fn print_decoded(
     rt: &HostRuntime,
-    decoded: Decoded,
+    decoded: Result<Decoded, Refusal>,
     place: Place,
     program: &[u8],
-    prefix: &[u8; Comparison::PREFIX],
-    cycle: &[u8; Comparison::LOOP],
+    prefix: &[u8; PREFIX],
+    cycle: &[u8; LOOP],
 ) -> Output
     ensures { HandsDecoded decoded prefix.now cycle.now result }
 {
-    let answer = decoded.answer;
-    match answer {
-        Answer::Table => print_table(rt, decoded.table),
-        Answer::None => print_answer(rt, b"none\n"),
-        Answer::Unknown => print_answer(rt, b"unknown\n"),
-        Answer::Refused(x) => print_refusal(rt, x, place, program, prefix, cycle),
+    match decoded {
+        Ok(Decoded::Table(table)) => print_table(rt, table),
+        Ok(Decoded::None) => print_answer(rt, b"none\n"),
+        Ok(Decoded::Unknown) => print_answer(rt, b"unknown\n"),
+        Err(x) => print_refusal(rt, x, place, program, prefix, cycle),
     }
 }
 
@@ -81,18 +77,13 @@ fn print_table(rt: &HostRuntime, table: Automaton) -> Output
     if !table.valid() {
         return print_line(rt, Refusal::Outside, b"the automaton", Place::first());
     }
-    let written = print_automaton(rt, table);
-    match written {
-        Written::Text(length) => unworded(length),
-        Written::Refused(_) => unworded(0),
-    }
+    unworded(print_automaton(rt, table).unwrap_or(0))
 }
 
 fn print_answer(rt: &HostRuntime, word: &[u8]) -> Output
     ensures { Alone word.now result }
 {
-    let printed = print(rt, word, word.len());
-    unworded(printed.length)
+    unworded(handed(print(rt, word, word.len())))
 }
 
 // After 12 comes the first word that shows the difference; 8, and 4 for the named acceptance, speak of the arguments.
@@ -101,8 +92,8 @@ fn print_refusal(
     x: Refusal,
     place: Place,
     program: &[u8],
-    prefix: &[u8; Comparison::PREFIX],
-    cycle: &[u8; Comparison::LOOP],
+    prefix: &[u8; PREFIX],
+    cycle: &[u8; LOOP],
 ) -> Output
     ensures { HandsRefused x prefix.now cycle.now result }
 {
@@ -120,34 +111,31 @@ fn print_refusal(
 // No word follows a line that the output did not take.
 fn print_behind(
     rt: &HostRuntime,
-    line: Printed,
-    prefix: &[u8; Comparison::PREFIX],
+    line: Result<usize, usize>,
+    prefix: &[u8; PREFIX],
     p: usize,
-    cycle: &[u8; Comparison::LOOP],
+    cycle: &[u8; LOOP],
     l: usize,
 ) -> Output
     ensures { HandsBehind line p l prefix.now cycle.now result }
 {
-    if !line.written {
-        return unworded(line.length);
-    }
-    let word = print_word(rt, prefix, p, cycle, l);
-    Output {
-        answer: line.length,
-        word: word.length,
+    match line {
+        Ok(answer) => Output {
+            answer,
+            word: Some(handed(print_word(rt, prefix, p, cycle, l))),
+        },
+        Err(answer) => unworded(answer),
     }
 }
 
 fn print_line(rt: &HostRuntime, x: Refusal, name: &[u8], place: Place) -> Output
     ensures { Alone (refused_line x) result }
 {
-    let refused = refuse(rt, x, name, place);
-    let line = refused.line;
-    unworded(line.length)
+    unworded(handed(refuse(rt, x, name, place).line))
 }
 
 fn unworded(answer: usize) -> Output
     ensures { result ≡ unworded answer }
 {
-    Output { answer, word: 0 }
+    Output { answer, word: None }
 }

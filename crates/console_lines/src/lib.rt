@@ -7,7 +7,7 @@ ghost use Rattle.console_print.specs.Handed.{Hands};
 ghost use Rattle.console_lines.specs.Refusing.{HandsRefusal};
 
 use console_places::Place;
-use console_print::{Printed, print, say};
+use console_print::{print, say};
 use console_report::lines;
 use console_report::lines::LINE;
 use console_sentences::{SENTENCE, sentence};
@@ -17,12 +17,12 @@ use refusals::{Code, Refusal};
 #[derive(Clone, Copy)]
 pub struct TurnedDown {
     pub code: Code,
-    pub line: Printed,
+    pub line: Result<usize, usize>,
     pub sentence: usize,
 }
 
 // Prints the line in the first bytes of a buffer.
-pub fn print_line(rt: &HostRuntime, line: &[u8; LINE], length: usize) -> Printed
+pub fn print_line(rt: &HostRuntime, line: &[u8; LINE], length: usize) -> Result<usize, usize>
     ensures { Hands (take length line.now) result }
 {
     print(rt, line, length)

@@ -1,5 +1,5 @@
 -- Laws of places: lines and columns by counting line feeds, and a text that comes in pieces.
-use Rattle.std.specs.Prelude.{◌≡◌, refl, Bool, true, false, cond, List, [], ◌∷◌, ◌++◌, ℕ, ◌+◌, ◌-◌, ◌^◌, ◌≤◌, ◌<◌, ltb, eqb, length, take}
+use Rattle.std.specs.Prelude.{◌≡◌, refl, Bool, true, false, cond, List, [], ◌∷◌, ◌++◌, ℕ, ◌+◌, ◌-◌, ◌^◌, ◌≤◌, ◌<◌, ltb, eqb, length, take, None}
 use Rattle.std.proofs.Common.{sym, ap, ◌∙◌, arith, lt-ltb, le-ltb, length-take, length-append}
 use Rattle.std.proofs.Math.Seq.{take-append-add}
 use Rattle.console_places.specs.declared.Place.{Place}
@@ -16,7 +16,7 @@ since k [] = k
 since k (b ∷ s) = since (cond (eqb b 10) 0 (k + 1)) s
 
 abbrev pub place : ℕ → ℕ → ℕ → Place
-place o l c = record { offset = o; line = l; column = c; byte = 256 }
+place o l c = record { offset = o; line = l; column = c; byte = None }
 
 -- as long as the numbers have 64 bits: so many bytes, so many line feeds, and so many bytes behind the last of them
 after_counts : (o l k : ℕ) (s : List ℕ) → o + length s < 2 ^ 64 → l + length s < 2 ^ 64 → k + 1 + length s < 2 ^ 64

@@ -1,22 +1,20 @@
 // Places in a text: offset, line and column, and the byte that stands there.
 #![tactic(auto)]
 
-ghost use Rattle.std.specs.Prelude.{◌≡◌, ◌-◌, ◌≤◌};
-ghost use Rattle.console_places.specs.Places.{first, next, after, byte_at, seen_at, more, back, within};
+ghost use Rattle.std.specs.Prelude.{◌≡◌, ◌≤◌};
+ghost use Rattle.console_places.specs.Places.{first, next, after, seen_at, back, within};
 
 use crate::part::first;
 
 pub mod part;
-
-// No byte: the text ends there, or what stands there is not known.
-pub const UNSEEN: usize = 256;
 
 #[derive(Clone, Copy)]
 pub struct Place {
     pub offset: usize,
     pub line: usize,
     pub column: usize,
-    pub byte: usize,
+    // None where the text ends, or where what stands there is not known.
+    pub byte: Option<u8>,
 }
 
 impl Place {
@@ -28,7 +26,7 @@ impl Place {
             offset: 0,
             line: 1,
             column: 1,
-            byte: UNSEEN,
+            byte: None,
         }
     }
 
@@ -37,10 +35,8 @@ impl Place {
         ensures { result ≡ after self text.now }
     {
         let mut place = self;
-        let mut i: usize = 0;
-        while i < text.len() {
-            place = place.next(text[i]);
-            i += 1;
+        for b in text {
+            place = place.next(*b);
         }
         place
     }
@@ -62,28 +58,28 @@ impl Place {
         Place {
             offset,
             line: self.line,
-            column: less(self.column, self.offset - offset),
-            byte: UNSEEN,
+            column: self.column.saturating_sub(self.offset - offset),
+            byte: None,
         }
     }
 
     fn next(self, b: u8) -> Place
         ensures { result ≡ next self b }
     {
-        let offset = more(self.offset);
+        let offset = self.offset.saturating_add(1);
         if b == b'\n' {
             return Place {
                 offset,
-                line: more(self.line),
+                line: self.line.saturating_add(1),
                 column: 1,
-                byte: UNSEEN,
+                byte: None,
             };
         }
         Place {
             offset,
             line: self.line,
-            column: more(self.column),
-            byte: UNSEEN,
+            column: self.column.saturating_add(1),
+            byte: None,
         }
     }
 }
@@ -97,28 +93,6 @@ pub fn of(text: &[u8], offset: usize) -> Place
         offset: place.offset,
         line: place.line,
         column: place.column,
-        byte: byte_at(text, offset),
+        byte: text.get(offset).copied(),
     }
-}
-
-fn byte_at(text: &[u8], at: usize) -> usize
-    ensures { result ≡ byte_at text.now at }
-{
-    if at < text.len() {
-        text[at] as usize
-    } else {
-        UNSEEN
-    }
-}
-
-fn more(x: usize) -> usize
-    ensures { result ≡ more x }
-{
-    if x < usize::MAX { x + 1 } else { x }
-}
-
-fn less(x: usize, y: usize) -> usize
-    ensures { result ≡ x - y }
-{
-    if y < x { x - y } else { 0 }
 }

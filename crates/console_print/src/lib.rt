@@ -2,24 +2,27 @@
 #![tactic(auto)]
 
 ghost use Rattle.std.specs.Prelude.{◌≡◌, take, length as count};
-ghost use Rattle.console_print.specs.Handed.{Hands, usage_line};
+ghost use Rattle.console_print.specs.Handed.{handed, Hands, usage_line};
 
 use console_failures::fail;
 use console_places::part::first;
 use std::io::{Print, Write};
 
-// How many bytes were handed over, and whether the output took them. Where it did not, standard error has the reason.
-#[derive(Clone, Copy)]
-pub struct Printed {
-    pub written: bool,
-    pub length: usize,
-}
-
-// Prints the first bytes of a buffer.
-pub fn print(rt: &HostRuntime, text: &[u8], length: usize) -> Printed
+// Prints the first bytes of a buffer. The error, too, is how many bytes were handed over: the output did not take them, and standard error has the reason.
+pub fn print(rt: &HostRuntime, text: &[u8], length: usize) -> Result<usize, usize>
     ensures { Hands (take length text.now) result }
 {
     hand_over(rt, first(text, length))
+}
+
+// How many bytes were handed over, whether the output took them or not.
+pub fn handed(printed: Result<usize, usize>) -> usize
+    ensures { result ≡ handed printed }
+{
+    match printed {
+        Ok(length) => length,
+        Err(length) => length,
+    }
 }
 
 // Prints the first bytes of a buffer on standard error.
@@ -39,17 +42,15 @@ pub fn usage(rt: &HostRuntime, call: &[u8]) -> usize
     front + middle + back
 }
 
-fn hand_over(rt: &HostRuntime, text: &[u8]) -> Printed
+fn hand_over(rt: &HostRuntime, text: &[u8]) -> Result<usize, usize>
     ensures { Hands text.now result }
 {
-    let taken = rt.stdout().write_all(text);
-    let written = taken.is_ok();
-    if let Err(why) = taken {
-        fail(rt, b"standard output", why);
-    }
-    Printed {
-        written,
-        length: text.len(),
+    match rt.stdout().write_all(text) {
+        Ok(()) => Ok(text.len()),
+        Err(why) => {
+            fail(rt, b"standard output", why);
+            Err(text.len())
+        }
     }
 }
 

@@ -2,28 +2,20 @@
 #![tactic(auto)]
 
 ghost use Rattle.std.specs.Prelude.{◌≡◌};
-ghost use Rattle.console_profiles.specs.Profiles.{listing_of, as_mask, mask_of, named, profile_of};
+ghost use Rattle.console_profiles.specs.Profiles.{listing_of, as_mask, mask_of, profile_of};
 
 use acceptance::every_set;
 use clause_sizes::{Listing, Target};
-use console_numerals::{Number, parse};
+use console_numerals::parse;
 use hoa_words::same;
 
-// A mask as it is given to a program.
+// Why a word names no mask, or words no profile.
 #[derive(Clone, Copy)]
-pub enum Mask {
-    Of(u16),
+pub enum Unnamed {
     // A yes past the sets of marks of any automaton.
     Past,
     // No such word.
-    None,
-}
-
-#[derive(Clone, Copy)]
-pub enum Profile {
-    Of(Target),
-    Past,
-    None,
+    Unknown,
 }
 
 // The list is `1` or `2`, and of the places for marks there are transitions.
@@ -33,31 +25,23 @@ pub fn profile_of(
     marks: &[u8],
     states: usize,
     sets: usize,
-) -> Profile
+) -> Result<Target, Unnamed>
     ensures { result ≡ profile_of list.now acceptance.now marks.now states sets }
 {
     if !(same(b"1", list) | same(b"2", list)) {
-        return Profile::None;
+        return Err(Unnamed::Unknown);
     }
     if !same(b"transitions", marks) {
-        return Profile::None;
+        return Err(Unnamed::Unknown);
     }
-    named(mask_of(acceptance, sets), listing_of(list), states, sets)
-}
-
-fn named(mask: Mask, listing: Listing, states: usize, sets: usize) -> Profile
-    ensures { result ≡ named states sets listing mask }
-{
-    match mask {
-        Mask::Of(acceptance) => Profile::Of(Target {
-            states,
-            sets,
-            acceptance,
-            listing,
-        }),
-        Mask::Past => Profile::Past,
-        Mask::None => Profile::None,
-    }
+    let acceptance = mask_of(acceptance, sets)?;
+    let listing = listing_of(list);
+    Ok(Target {
+        states,
+        sets,
+        acceptance,
+        listing,
+    })
 }
 
 // `2` names the second clause list, every other word the first.
@@ -65,31 +49,25 @@ pub fn listing_of(word: &[u8]) -> Listing
     ensures { result ≡ listing_of word.now }
 {
     if same(b"2", word) {
-        return Listing::Second;
+        Listing::Second
+    } else {
+        Listing::First
     }
-    Listing::First
 }
 
 // `all` is Inf of all sets.
-pub fn mask_of(word: &[u8], sets: usize) -> Mask
+pub fn mask_of(word: &[u8], sets: usize) -> Result<u16, Unnamed>
     ensures { result ≡ mask_of word.now sets }
 {
     if same(b"all", word) {
-        return Mask::Of(every_set(sets));
+        return Ok(every_set(sets));
     }
     as_mask(parse(word))
 }
 
-fn as_mask(number: Number) -> Mask
+fn as_mask(number: Option<u64>) -> Result<u16, Unnamed>
     ensures { result ≡ as_mask number }
 {
-    match number {
-        Number::Of(value) => {
-            if value > 65535 {
-                return Mask::Past;
-            }
-            Mask::Of(value as u16)
-        }
-        Number::None => Mask::None,
-    }
+    let value = number.ok_or(Unnamed::Unknown)?;
+    u16::try_from(value).map_err(|_| Unnamed::Past)
 }

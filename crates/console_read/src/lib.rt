@@ -2,21 +2,21 @@
 // calls answered.
 #![tactic(auto)]
 
-ghost use Rattle.std.specs.Prelude.{◌≡◌, ◌≤◌, length};
-ghost use Rattle.console_read.specs.Got.{whole, cut, ReadOnce, InputRead, FileRead, ArgumentRead};
+ghost use Rattle.std.specs.Prelude.{◌≡◌, ◌≤◌, length, None};
+ghost use Rattle.console_read.specs.Counts.{ReadOnce, InputRead, FileRead, ArgumentRead};
 
 use console_failures::fail;
 use std::env::{Env, FillError};
+use std::fmt::Display;
 use std::fs::File;
 use std::io::Read;
 use std::str;
 
-// How much was read. Where it is not whole, standard error has the reason.
-#[derive(Clone, Copy)]
-pub struct Got {
-    pub whole: bool,
-    pub length: usize,
-}
+// Bytes that hold any path.
+pub const PATH: usize = 4096;
+
+// Bytes of a piece of a long text.
+pub const PIECE: usize = 65536;
 
 // How many arguments there are, with the program's name.
 pub fn argument_count(rt: &HostRuntime) -> usize {
@@ -33,56 +33,35 @@ pub fn argument_count(rt: &HostRuntime) -> usize {
 pub fn argument_or_empty(rt: &HostRuntime, i: usize, word: &mut [u8]) -> usize
     ensures { result ≤ length word.new }
 {
-    match rt.arg(i, word) {
-        Ok(count) => count,
-        Err(_) => 0,
-    }
+    rt.arg(i, word).unwrap_or(0)
 }
 
-// 4,096 zeros, which hold any path.
-pub fn buffer() -> [u8; 4096]
-    ensures { 4096 ≡ length result }
-{
-    [0; 4096]
-}
-
-// 65,536 zeros, a piece of a long text.
-pub fn large_buffer() -> [u8; 65536]
-    ensures { 65536 ≡ length result }
-{
-    [0; 65536]
-}
-
-// An argument, as it was given.
-pub fn argument(rt: &HostRuntime, i: usize, word: &mut [u8]) -> Got
+// How long an argument is that stands in the buffer. Where it does not, standard error has the reason.
+pub fn argument(rt: &HostRuntime, i: usize, word: &mut [u8]) -> Option<usize>
     ensures { ArgumentRead (length word.new) result }
 {
     match rt.arg(i, word) {
-        Ok(count) => whole(count),
-        Err(FillError::NotPresent) => {
-            fail(rt, b"argument", "Invalid argument");
-            unread()
-        }
-        Err(FillError::TooLong) => {
-            fail(rt, b"argument", "File name too long");
-            unread()
-        }
+        Ok(count) => Some(count),
+        Err(FillError::NotPresent) => unread(rt, b"argument", "Invalid argument"),
+        Err(FillError::TooLong) => unread(rt, b"argument", "File name too long"),
     }
 }
 
-pub fn read_input(rt: &HostRuntime, text: &mut [u8]) -> Got
+// How many bytes standard input has. Where a call failed, standard error has the reason, and the error is how many bytes had been read before it.
+pub fn read_input(rt: &HostRuntime, text: &mut [u8]) -> Result<usize, usize>
     ensures { InputRead (length text.new) 0 result }
 {
     let mut input = rt.stdin();
     read_all(rt, &mut input, b"standard input", text)
 }
 
-pub fn read_file(rt: &HostRuntime, path: &[u8], text: &mut [u8]) -> Got
+// How many bytes a file has, or the error as of standard input.
+pub fn read_file(rt: &HostRuntime, path: &[u8], text: &mut [u8]) -> Result<usize, usize>
     ensures { FileRead (length text.new) result }
 {
     match open(rt, path) {
         Some(mut file) => read_all(rt, &mut file, path, text),
-        None => unread(),
+        None => Err(0),
     }
 }
 
@@ -102,51 +81,46 @@ pub fn open(rt: &HostRuntime, path: &[u8]) -> Option<File> {
 }
 
 // Reads until the buffer is full or the input ends.
-fn read_all<R: Read>(rt: &HostRuntime, file: &mut R, name: &[u8], text: &mut [u8]) -> Got
+fn read_all<R: Read>(
+    rt: &HostRuntime,
+    file: &mut R,
+    name: &[u8],
+    text: &mut [u8],
+) -> Result<usize, usize>
     ensures { InputRead (length text.new) 0 result }
 {
     let mut filled: usize = 0;
     while filled < text.len() {
-        let got = read_some(rt, file, name, &mut text[filled..]);
-        if got.length == 0 {
-            return Got {
-                whole: got.whole,
-                length: filled,
-            };
+        let Some(length) = read_some(rt, file, name, &mut text[filled..]) else {
+            return Err(filled);
+        };
+        if length == 0 {
+            return Ok(filled);
         }
-        filled += got.length;
+        filled += length;
     }
-    whole(filled)
+    Ok(filled)
 }
 
-// Reads once: nothing at the end of the input.
-pub fn read_some<R: Read>(rt: &HostRuntime, file: &mut R, name: &[u8], part: &mut [u8]) -> Got
+// Reads once: nothing at the end of the input. Where the call failed, standard error has the reason.
+pub fn read_some<R: Read>(
+    rt: &HostRuntime,
+    file: &mut R,
+    name: &[u8],
+    part: &mut [u8],
+) -> Option<usize>
     ensures { ReadOnce (length part.old) result }
 {
     match file.read(part) {
-        Ok(length) => whole(length),
-        Err(why) => {
-            fail(rt, name, why);
-            unread()
-        }
+        Ok(length) => Some(length),
+        Err(why) => unread(rt, name, why),
     }
 }
 
-fn whole(length: usize) -> Got
-    ensures { result ≡ whole length }
+// Where a call failed, so that nothing was read.
+fn unread<D: Display + Drop>(rt: &HostRuntime, what: &[u8], why: D) -> Option<usize>
+    ensures { result ≡ None }
 {
-    Got {
-        whole: true,
-        length,
-    }
-}
-
-// Where a call failed before anything was read.
-fn unread() -> Got
-    ensures { result ≡ cut 0 }
-{
-    Got {
-        whole: false,
-        length: 0,
-    }
+    fail(rt, what, why);
+    None
 }

@@ -5,17 +5,17 @@ ghost use Rattle.console_report.specs.Lines.{row, word_lines};
 ghost use Rattle.console_report.specs.Spaced.{spaced};
 
 use crate::parts::spaced;
-use compare::Comparison;
+use compare::{LOOP, PREFIX};
 use pieces::{byte, word};
 
 // Bytes of a lent buffer: for each letter a space and at most three digits, for each line its name and a line feed.
-pub const WORD: usize = 4 * (Comparison::PREFIX + Comparison::LOOP) + 12;
+pub const WORD: usize = 4 * (PREFIX + LOOP) + 12;
 
 // `prefix ..` and `loop ..`: the first letters of the two buffers, as many as the lengths say.
 pub fn word_lines(
-    prefix: &[u8; Comparison::PREFIX],
+    prefix: &[u8; PREFIX],
     prefixed: usize,
-    cycle: &[u8; Comparison::LOOP],
+    cycle: &[u8; LOOP],
     cycled: usize,
     out: &mut [u8; WORD],
 ) -> usize
@@ -42,19 +42,9 @@ fn numbers(letters: &[u8], count: usize, out: &mut [u8], at: usize) -> usize
     ensures most { result ≤ at + 4 * length letters.now }
 {
     let mut next = at;
-    let mut i: usize = 0;
-    while i < letters.len() {
-        if i == count {
-            return next;
-        }
-        next = spaced(wide(letters[i]), out, next);
-        i += 1;
+    let size = count.min(letters.len());
+    for letter in &letters[..size] {
+        next = spaced(u64::from(*letter), out, next);
     }
     next
-}
-
-fn wide(letter: u8) -> u64
-    ensures { result ≡ letter }
-{
-    letter as u64
 }

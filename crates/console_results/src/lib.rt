@@ -7,27 +7,23 @@ ghost use Rattle.console_print.specs.Handed.{Hands};
 ghost use Rattle.console_results.specs.Results.{HandsAutomaton};
 
 use automaton::Automaton;
-use compare::Comparison;
+use compare::{LOOP, PREFIX};
 use console_lines::refuse;
 use console_places::Place;
-use console_print::{Printed, print};
+use console_print::{handed, print};
 use console_report::lasso::{WORD, word_lines};
-use hoa_write::Written;
+use refusals::Refusal;
 
 // Prints an automaton as HOA text, or its refusal.
-pub fn print_automaton(rt: &HostRuntime, a: Automaton) -> Written
+pub fn print_automaton(rt: &HostRuntime, a: Automaton) -> Result<usize, Refusal>
     ensures { HandsAutomaton a result }
 {
-    let mut text = [0u8; Written::BYTES];
-    let written = hoa_write::write(a, &mut text);
-    match written {
-        Written::Text(length) => {
-            let printed = print(rt, &text, length);
-            Written::Text(printed.length)
-        }
-        Written::Refused(x) => {
+    let mut text = [0u8; hoa_write::BYTES];
+    match hoa_write::write(a, &mut text) {
+        Ok(length) => Ok(handed(print(rt, &text, length))),
+        Err(x) => {
             refuse(rt, x, b"the automaton", Place::first());
-            Written::Refused(x)
+            Err(x)
         }
     }
 }
@@ -35,11 +31,11 @@ pub fn print_automaton(rt: &HostRuntime, a: Automaton) -> Written
 // Prints the two lines of a lasso word, which stands in two buffers.
 pub fn print_word(
     rt: &HostRuntime,
-    prefix: &[u8; Comparison::PREFIX],
+    prefix: &[u8; PREFIX],
     prefixed: usize,
-    cycle: &[u8; Comparison::LOOP],
+    cycle: &[u8; LOOP],
     cycled: usize,
-) -> Printed
+) -> Result<usize, usize>
     ensures { Hands (word_lines (take prefixed prefix.now) (take cycled cycle.now)) result }
 {
     let mut text = [0u8; WORD];

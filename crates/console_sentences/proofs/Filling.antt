@@ -5,9 +5,10 @@ use mathlib.Core.List.{List, [], ◌∷◌, ◌++◌, append_assoc, append-nil}
 use Prim.Native.Char.{code}
 use Prim.Native.Nat.{ℕ, ◌+◌, ◌≤◌, ◌<◌}
 use native.Mathlib.Omega.{arith}
-use borrow.Author.Tests.{eq-eqb, ne_eqb}
 use lib.Dec.{eqb}
-use lib.ListN.{length, get_or, drop, drop_of_length-le}
+use native.Mathlib.Numerals.{add-one}
+use lib.ListN.{length, get_or, take, drop}
+use lib.Seq.{take-suc, take_all, drop-cons}
 use Rattle.refusals.specs.declared.Code.{Code}
 use Rattle.decimal.specs.Decimal.{decimal}
 use Rattle.decimal.specs.Digits.{decimal_at_most_20}
@@ -15,8 +16,7 @@ use Rattle.decimal.specs.Wrote.{Wrote, WroteIfRoom}
 use Rattle.decimal.specs.Writing.{wrote_none, wrote_then, wrote_length}
 use Rattle.console_places.specs.declared.Place.{Place}
 use Rattle.console_sentences.specs.Sentences.{shown, filled}
-use Rattle.console_sentences.specs.Patterns.{line, cost, most}
-use Rattle.console_sentences.proofs.Lines.{byte_first}
+use Rattle.console_sentences.specs.Patterns.{cost, most}
 
 module _ (c : Code) (p : Place) where
   pub shown_at_most : (b : ℕ) → length (shown c p b) ≤ cost b
@@ -31,53 +31,33 @@ module _ (c : Code) (p : Place) where
       go false false false true = decimal_at_most_20 c.second
       go false false false false = omega arith
 
-  -- d is the buffer before, e is it now; the line of s begins at `from`, and i is next
-  pub record Going (s d : List ℕ) (from i : ℕ) (e : List ℕ) (at : ℕ) : Type 0 where
-    pub so_far : List ℕ
-    pub wrote : Wrote d 0 so_far e at
-    pub whole : filled c p (line (drop from s)) ≡ so_far ++ filled c p (line (drop i s))
-    pub room : at + most (line (drop i s)) ≤ length d
+  filled_append : (u v : List ℕ) → filled c p (u ++ v) ≡ filled c p u ++ filled c p v
+  filled_append [] v = refl
+  filled_append (b ∷ u) v = ap (λ w. shown c p b ++ w) (filled_append u v) ∙ sym (append_assoc (shown c p b) (filled c p u) (filled c p v))
 
-  module _ (s d : List ℕ) (from : ℕ) where
-    pub going_first : most (line (drop from s)) ≤ length d → Going s d from from d 0
-    going_first h = record { so_far = []; wrote = wrote_none d 0 (omega arith); whole = refl; room = omega arith }
+  module _ (s d : List ℕ) where
+    -- d is the buffer before, e is it now; the first i bytes are filled
+    pub record Going (i : ℕ) (e : List ℕ) (at : ℕ) : Type 0 where
+      pub wrote : Wrote d 0 (filled c p (take i s)) e at
+      pub room : at + most (drop i s) ≤ length d
 
-    module _ (i : ℕ) {e f : List ℕ} {at r : ℕ} (g : Going s d from i e at) (h : i < length s) (w : WroteIfRoom e at (shown c p (get_or s i 0)) f r) where
-      here : line (drop i s) ≡ get_or s i 0 ∷ cond (eqb (get_or s i 0) 10) [] (line (drop (i + 1) s))
-      here = ap line (byte_first s i h)
+    pub going_first : most s ≤ length d → Going 0 d 0
+    going_first h = record { wrote = wrote_none d 0 (omega arith); room = omega arith }
 
-      fits : at + length (shown c p (get_or s i 0)) + most (cond (eqb (get_or s i 0) 10) [] (line (drop (i + 1) s))) ≤ length d
-      fits = omega (arith, g.room, ap most here, shown_at_most (get_or s i 0))
+    pub going_on : (i : ℕ) {e f : List ℕ} {at r : ℕ} → Going i e at → i < length s → WroteIfRoom e at (shown c p (get_or s i 0)) f r → Going (i + 1) f r
+    going_on i {e} {f} {at} {r} g h w =
+        let b = get_or s i 0 in
+        let here : drop i s ≡ b ∷ drop (i + 1) s = rw (add-one, drop-cons s i 0 h) in
+        let room : at + length (shown c p b) + most (drop (i + 1) s) ≤ length d = omega (arith, g.room, ap most here, shown_at_most b) in
+        let written : Wrote e at (shown c p b) f r = w.roomy (omega (arith, room, wrote_length g.wrote)) in
+        let more : take (i + 1) s ≡ take i s ++ (b ∷ []) = rw (add-one, take-suc s i 0 h) in
+        record {
+          wrote =
+              subst (λ l. Wrote d 0 l f r)
+              (ap (λ l. filled c p (take i s) ++ l) (sym (append-nil (shown c p b))) ∙ sym (filled_append (take i s) (b ∷ [])) ∙ ap (filled c p) (sym more))
+              (wrote_then g.wrote written);
+          room = omega (arith, written.next, room);
+        }
 
-      pub written : Wrote e at (shown c p (get_or s i 0)) f r
-      written = w.roomy (omega (arith, fits, wrote_length g.wrote))
-
-      longer : Wrote d 0 (g.so_far ++ shown c p (get_or s i 0)) f r
-      longer = wrote_then g.wrote written
-
-      rest : filled c p (line (drop from s))
-          ≡ (g.so_far ++ shown c p (get_or s i 0)) ++ filled c p (cond (eqb (get_or s i 0) 10) [] (line (drop (i + 1) s)))
-      rest = g.whole ∙ ap (λ l. g.so_far ++ filled c p l) here ∙ sym (append_assoc g.so_far _ _)
-
-      pub going_on : (get_or s i 0 ≡ 10 → ⊥) → Going s d from (i + 1) f r
-      going_on n =
-          let t = ne_eqb (get_or s i 0) 10 n in
-          record {
-            so_far = g.so_far ++ shown c p (get_or s i 0);
-            wrote = longer;
-            whole = rest ∙ ap (λ t. (g.so_far ++ shown c p (get_or s i 0)) ++ filled c p (cond t [] (line (drop (i + 1) s)))) t;
-            room = omega (arith, written.next, fits, ap (λ t. most (cond t [] (line (drop (i + 1) s)))) t);
-          }
-
-      pub ended : get_or s i 0 ≡ 10 → Wrote d 0 (filled c p (line (drop from s))) f r
-      ended e =
-          let t = eq-eqb (get_or s i 0) 10 e in
-          subst (λ l. Wrote d 0 l f r)
-          (sym (rest ∙ ap (λ t. (g.so_far ++ shown c p (get_or s i 0)) ++ filled c p (cond t [] (line (drop (i + 1) s)))) t ∙ append-nil (g.so_far ++ shown c p (get_or s i 0))))
-          longer
-
-    pub all_filled : (i : ℕ) {e : List ℕ} {at : ℕ} → Going s d from i e at → length s ≤ i → Wrote d 0 (filled c p (line (drop from s))) e at
-    all_filled i {e} {at} g h =
-        subst (λ l. Wrote d 0 l e at)
-        (sym (g.whole ∙ ap (λ l. g.so_far ++ filled c p (line l)) (drop_of_length-le s {i = i} h) ∙ append-nil g.so_far))
-        g.wrote
+    pub all_filled : (i : ℕ) {e : List ℕ} {at : ℕ} → Going i e at → length s ≤ i → Wrote d 0 (filled c p s) e at
+    all_filled i {e} {at} g h = subst (λ l. Wrote d 0 (filled c p l) e at) (take_all i s h) g.wrote

@@ -1,3 +1,2 @@
-pub mod Lines
 pub mod Filling
-pub mod Chosen
+pub mod Room

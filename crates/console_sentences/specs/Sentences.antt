@@ -1,5 +1,5 @@
 -- DEFINITION: the sentence that says in words why something was turned down, as bytes. A refusal can have several causes; what stands at its place tells most of them apart.
-use Rattle.std.specs.Prelude.{Bool, cond, ◌&&◌, List, [], ◌∷◌, ◌++◌, ℕ, eqb, leb}
+use Rattle.std.specs.Prelude.{Bool, false, cond, ◌&&◌, List, [], ◌∷◌, ◌++◌, ℕ, eqb, leb, is_none, Option, Some, None}
 use Prim.Native.Char.{Char, code}
 use Prim.Native.String.{String}
 use Rattle.refusals.specs.declared.Code.{Code}
@@ -26,13 +26,17 @@ filled c p (b ∷ s) = shown c p b ++ filled c p s
 -- ---- what stands at the place of a refusal in HOA text, which is that of `console_places::of`
 
 abbrev pub ends : Place → Bool
-ends p = eqb p.byte 256
+ends p = is_none p.byte
+
+abbrev pub seen : (ℕ → Bool) → Option ℕ → Bool
+seen test None = false
+seen test (Some b) = test b
 
 abbrev pub digit : Place → Bool
-digit p = leb (code "0") p.byte && leb p.byte (code "9")
+digit p = seen (λ b. leb (code "0") b && leb b (code "9")) p.byte
 
 abbrev pub stands : Char → Place → Bool
-stands b p = eqb p.byte (code b)
+stands c p = seen (λ b. eqb b (code c)) p.byte
 
 -- ---- one line for each refusal; p is the place of its offset, where it has one
 

@@ -15,31 +15,33 @@ use Rattle.decimal.specs.Writing.{wrote_roomy, wrote_short}
 
 -- ---- one digit, by taking a power away
 
--- the power was taken away d times, and does not go more than `left` times into the rest
-pub record Taken (n power left d rest : ℕ) : Type 0 where
+-- in so many turns the power was taken away d times, and does not go more often into the rest than turns are left
+pub record Taken (n power turn d rest : ℕ) : Type 0 where
   pub whole : n ≡ d * power + rest
-  pub less : rest < power * (left + 1)
-  pub count : d + left ≤ 9
+  pub less : rest < power * (10 - turn)
+  pub count : d ≤ turn
 
-pub taken_none : (n power : ℕ) → n < power * 10 → Taken n power 9 0 n
+pub taken_none : (n power : ℕ) → n < power * 10 → Taken n power 0 0 n
 taken_none n power h = record { whole = omega (arith, zero-mul power); less = h; count = omega arith }
 
 -- once more, where it goes
-pub taken_once : {n power left d rest : ℕ} → Taken n power left d rest → 0 < left → power ≤ rest → Taken n power (left - 1) (d + 1) (rest - power)
-taken_once {n} {power} {left} {d} {rest} t h g =
-    let e : left - 1 + 1 ≡ left = omega arith in
+pub taken_once : {n power turn d rest : ℕ} → Taken n power turn d rest → {c s : ℕ} → turn < 9 → power ≤ rest → c ≡ d + 1 → s ≡ rest - power → Taken n power (turn + 1) c s
+taken_once {n} {power} {turn} {d} {rest} t {c} {s} h g p q =
+    let e : 10 - turn ≡ 10 - (turn + 1) + 1 = omega arith in
     record {
-      whole = omega (arith, t.whole, add-mul d 1 power, one-mul power);
-      less = subst (λ (k : ℕ). rest - power < power * k) (sym e) (omega (arith, t.less, mul-add power left 1, mul-one power));
+      whole = omega (arith, t.whole, ap (λ (k : ℕ). k * power) p, add-mul d 1 power, one-mul power);
+      less = omega (arith, subst (λ (k : ℕ). rest < power * k) e t.less, mul-add power (10 - (turn + 1)) 1, mul-one power);
       count = omega (arith, t.count);
     }
 
-pub taken_enough : {n power left d rest : ℕ} → Taken n power left d rest → 0 < left → rest < power → Taken n power (left - 1) d rest
-taken_enough {power} {left} t h g =
-    record { whole = t.whole; less = omega (arith, mul-add power (left - 1) 1, mul-one power); count = omega (arith, t.count) }
+pub taken_enough : {n power turn d rest : ℕ} → Taken n power turn d rest → {c s : ℕ} → turn < 9 → rest < power → c ≡ d → s ≡ rest → Taken n power (turn + 1) c s
+taken_enough {power = power} {turn = turn} {rest = rest} t {c} {s} h g p q =
+    let e : 10 - (turn + 1) ≡ 8 - turn + 1 = omega arith in
+    let l : s < power * (8 - turn + 1) = omega (arith, mul-add power (8 - turn) 1, mul-one power) in
+    record { whole = omega (arith, t.whole, ap (λ (k : ℕ). k * power) p); less = subst (λ (k : ℕ). s < power * k) (sym e) l; count = omega (arith, t.count) }
 
-pub taken_all : {n power left d rest : ℕ} → Taken n power left d rest → left ≡ 0 → (n ≡ d * power + rest) × (rest < power)
-taken_all {power} {rest} t e = (t.whole, subst (λ (k : ℕ). rest < k) (ap (λ (k : ℕ). power * (k + 1)) e ∙ mul-one power) t.less)
+pub taken_all : {n power turn d rest : ℕ} → Taken n power turn d rest → turn ≡ 9 → (n ≡ d * power + rest) × (rest < power)
+taken_all {power = power} {rest = rest} t e = (t.whole, subst (λ (k : ℕ). rest < k) (ap (λ (k : ℕ). power * (10 - k)) e ∙ mul-one power) t.less)
 
 -- ---- the last arm of a match on 0, 1, ..
 

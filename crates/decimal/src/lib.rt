@@ -25,14 +25,12 @@ pub fn write(n: u64, dst: &mut [u8], at: usize) -> usize
 fn digit_count(n: u64) -> usize
     ensures { result ≡ places 19 1 n }
 {
-    let mut count: usize = 1;
-    while count < 20 {
+    for count in 1..20 {
         if n < power_of_ten(count) {
             return count;
         }
-        count += 1;
     }
-    count
+    20
 }
 
 // A `match` and no table: an indexed constant array would be copied to the stack at each use.
@@ -142,13 +140,11 @@ fn leading_digit(n: u64, power: u64) -> Leading
 {
     let mut digit: u8 = 0;
     let mut rest = n;
-    let mut left: usize = 9;
-    while left > 0 {
+    for turn in 0..9u8 {
         if power <= rest {
             rest -= power;
             digit += 1;
         }
-        left -= 1;
     }
     Leading { digit, rest }
 }

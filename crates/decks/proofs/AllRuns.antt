@@ -1,5 +1,5 @@
 -- Acceptance `0 t`, one state, k = 0: its file for n = 1 and m = 0, and what four solver texts give.
-use Rattle.std.specs.Prelude.{◌≡◌, refl, true, List, [], ◌∷◌, ◌+◌, eqb, ℤ, pos, negsuc, get_or, replicate}
+use Rattle.std.specs.Prelude.{◌≡◌, refl, Ok, true, List, [], ◌∷◌, ◌+◌, eqb, ℤ, pos, negsuc, get_or, replicate}
 use Rattle.std.proofs.Common.{sym, ap, subst, ◌∙◌, ⊎_elim, arith}
 use Rattle.std.proofs.Math.Bool.{xor}
 use Rattle.std.proofs.lemmas.Bool.{false≢true}
@@ -21,7 +21,8 @@ use Rattle.solver_scan.specs.SolverText.{Seen, gives, blank, digit, digit19, set
 use Rattle.solver_agreement.specs.Assignment.{asserted}
 use Rattle.solver_agreement.specs.Table.{table}
 use Rattle.decode.specs.Table.{decoded_value, AllStep, LowestWithout}
-use Rattle.decode.specs.Answers.{ByComparison, found}
+use Rattle.decode.specs.Answers.{ByComparison}
+use Rattle.decode.specs.declared.Decoded.TheVariants.{Table}
 use Rattle.automaton.specs.Bytes.{bytes}
 use Rattle.clause_sizes.specs.Limits.{every_proper}
 use Rattle.clause_sizes.specs.Targets.{every, Proper, task, numbers, file}
@@ -97,7 +98,7 @@ itself : Agree (view all_runs) (view all_runs)
 unfolding CyclesAgree
 itself = let F = view_formed valid in cycles→agree (record { formed_A = F; formed_B = F; same_letters = refl }) (λ x y ox oy ne ca cb. refl)
 
-pub one_two_decoded : DecodedAs all_runs (every 1 0) (bytes "s SATISFIABLE\nv 1 2 0") (found all_runs) none
+pub one_two_decoded : DecodedAs all_runs (every 1 0) (bytes "s SATISFIABLE\nv 1 2 0") (Ok (Table all_runs)) none
 one_two_decoded q h prefix prefix-after loop loop-after hp hl x d =
     let t = (by_assignment valid sizes h hp hl d one_two refl).table one_two_steps in
     (subst (λ C. ByComparison prefix prefix-after loop loop-after x all_runs C) one_two_table t).same itself

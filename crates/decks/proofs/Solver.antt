@@ -1,5 +1,5 @@
 -- What a reader and the decoder make of a solver text, in whatever pieces it came: what the text gives by its definition.
-use Rattle.std.specs.Prelude.{◌≡◌, refl, List, ℕ, ◌≤◌, eqb, length, get_or}
+use Rattle.std.specs.Prelude.{◌≡◌, refl, Result, List, ℕ, ◌≤◌, eqb, length, get_or}
 use Rattle.std.proofs.Common.{subst, ◌∙◌}
 use Rattle.automaton.specs.declared.Automaton.{Automaton}
 use Rattle.refusals.specs.declared.Refusal.{Refusal}
@@ -33,7 +33,7 @@ module _ {a : Automaton} {τ : Target} (v : Valid a) (z : Proper τ) {text : Lis
   whole_tells : Tells (kept a τ) (outcome (last a τ) (kept a τ) text) (whole a τ q)
   whole_tells = tells (called_text v in_range z refl)
 
-  module _ {prefix prefix-after loop loop-after : List ℕ} (hp : prefix_room ≤ length prefix) (hl : loop_room ≤ length loop) {x : Decoded}
+  module _ {prefix prefix-after loop loop-after : List ℕ} (hp : prefix_room ≤ length prefix) (hl : loop_room ≤ length loop) {x : Result Decoded Refusal}
       (d : Decodes prefix prefix-after loop loop-after x a τ q) where
     admitted : Admitted prefix prefix-after loop loop-after x a τ q
     admitted = record { prefix_room_fits = hp; loop_room_fits = hl; valid = v; in_range = in_range; sizes = z }

@@ -1,11 +1,11 @@
 -- THE KNOWN DECKS of document 01 that are marked P, as one table under one theorem. Its sentences stand in quotes.
-use Rattle.std.specs.Prelude.{◌≡◌, ◌++◌, ◌≤◌}
+use Rattle.std.specs.Prelude.{◌≡◌, Ok, ◌++◌, ◌≤◌}
 use Rattle.std.proofs.Math.Option.{none}
 use Rattle.automaton.specs.declared.Automaton.{Automaton}
 use Rattle.refusals.specs.Refused.{row}
 use Rattle.automaton.specs.Value.{Valid}
 use Rattle.encoding.specs.Clauses.{Satisfies, destination}
-use Rattle.decode.specs.Answers.{found}
+use Rattle.decode.specs.declared.Decoded.TheVariants.{Table}
 use Rattle.automaton.specs.Bytes.{bytes}
 use Rattle.clause_sizes.specs.declared.Target.{Target}
 use Rattle.clause_sizes.specs.Targets.{every, Proper, last, task, numbers, file}
@@ -26,7 +26,7 @@ pub record AllRuns (a : Automaton) : Type 0 where
   -- "Then `s SATISFIABLE`, LF, and `v 1 2 0` is accepted": it states an assignment that satisfies the file, and the decoder answers the table
   -- of it, which is the reference again
   pub states : Stating a (every 1 0) (bytes "s SATISFIABLE\nv 1 2 0") (λ ν. Satisfies ν (file a (every 1 0)))
-  pub accepted : DecodedAs a (every 1 0) (bytes "s SATISFIABLE\nv 1 2 0") (found a) none
+  pub accepted : DecodedAs a (every 1 0) (bytes "s SATISFIABLE\nv 1 2 0") (Ok (Table a)) none
   -- "`v -1 2 0`: 11,0,0": it states an assignment in which no p below 1 is where the state 0 goes by the letter 0
   pub states_no_step : Stating a (every 1 0) (bytes "s SATISFIABLE\nv -1 2 0") (λ ν. destination (task a (every 1 0)) (numbers a (every 1 0)) ν 0 0 ≡ 1)
   pub no_step : DecoderRefuses a (every 1 0) (bytes "s SATISFIABLE\nv -1 2 0") (row 11 0 0)

@@ -1,12 +1,22 @@
 -- Laws of a set that is made bit by bit, from the last.
-use mathlib.Core.Path.{◌≡◌, sym, ap, ap₂, ◌∙◌}
-use mathlib.Core.Bool.{Bool}
+use mathlib.Core.Path.{◌≡◌, refl, sym, ap, ap₂, ◌∙◌}
+use mathlib.Core.Bool.{Bool, true, false}
+use mir.Val.{bool_byte}
 use Prim.Native.Nat.{ℕ, zero, suc, ◌+◌, ◌-◌, ◌*◌, ◌≤◌, ◌<◌}
 use native.Mathlib.Nat.{add-zero, zero-add}
 use native.Mathlib.Omega.{arith}
 use lib.Pow.{pow_mono}
 use Rattle.meaning.specs.BitSet.{bit, set_of}
 use Rattle.meaning.specs.MarkSets.{set_of_same, set_of_lt}
+
+-- a test as a byte is its bit
+pub byte_bit : (b : Bool) → bool_byte b ≡ bit b
+byte_bit true = refl
+byte_bit false = refl
+
+pub byte_le : (b : Bool) → bool_byte b ≤ 1
+byte_le true = omega arith
+byte_le false = omega arith
 
 set_of_step : (k i : ℕ) (f : ℕ → Bool) → set_of k (λ j. f (suc i + j)) * 2 + bit (f i) ≡ set_of (suc k) (λ j. f (i + j))
 unfolding set_of

@@ -1,5 +1,5 @@
 -- The table that is decoded, as the functions of src/ make it: entry i is that of the state i / 16 and the letter i % 16.
-use Rattle.std.specs.Prelude.{◌≡◌, true, false, List, ℕ, ◌/◌, ◌%◌, ◌≤◌, ◌<◌, eqb, length, get_or}
+use Rattle.std.specs.Prelude.{◌≡◌, Option, Some, None, List, ℕ, ◌/◌, ◌%◌, ◌≤◌, ◌<◌, eqb, length, get_or}
 use Rattle.meaning.specs.Automata.{Aut}
 use Rattle.encoding.specs.Clauses.{marks_on, decoded}
 use Rattle.encoding.specs.Named.{task_for}
@@ -27,12 +27,15 @@ destination_at C i = entry C C.step (i / 16) (i % 16)
 abbrev pub marks_at : Aut → ℕ → ℕ
 marks_at C i = entry C (marks_on C) (i / 16) (i % 16)
 
--- entry i, and whether it is a transition or not in use
+-- a transition, or zeros where the state or the letter is not in use
 pub record CellOf (C : Aut) (i : ℕ) (x : Cell) : Type 0 where
-  pub leads : x.found ≡ true → InUse C i → Leads C i
-  pub missing : x.found ≡ false → InUse C i × ¬ Leads C i
-  pub destination_is : x.found ≡ true → x.destination ≡ destination_at C i
-  pub marks_is : x.found ≡ true → x.marks ≡ marks_at C i
+  pub leads : InUse C i → Leads C i
+  pub destination_is : x.destination ≡ destination_at C i
+  pub marks_is : x.marks ≡ marks_at C i
+
+-- no step is true
+abbrev pub NoCell : Aut → ℕ → Type 0
+NoCell C i = InUse C i × ¬ Leads C i
 
 -- the first k entries are filled
 pub record Filled (C : Aut) (destinations marks : List ℕ) (k : ℕ) : Type 0 where
@@ -44,6 +47,6 @@ pub record Filled (C : Aut) (destinations marks : List ℕ) (k : ℕ) : Type 0 w
   pub marks_at_lem : (i : ℕ) → i < k → get_or marks i 0 ≡ marks_at C i
 
 -- all of them, or those before the first that is in use and has no transition
-pub record FilledTo (C : Aut) (destinations marks : List ℕ) (k : ℕ) : Type 0 where
-  pub filled : Filled C destinations marks k
-  pub stopped : k < 256 → InUse C k × ¬ Leads C k
+abbrev pub FilledTo : Aut → List ℕ → List ℕ → Option ℕ → Type 0
+FilledTo C destinations marks None = Filled C destinations marks 256
+FilledTo C destinations marks (Some k) = Filled C destinations marks k × (k < 256) × NoCell C k

@@ -1,8 +1,9 @@
 -- THE DECODER'S ANSWER TO A TEXT, whatever the pieces in which it came, and whether or not the reader was told that the text ends.
-use Rattle.std.specs.Prelude.{◌≡◌, refl, ◌⊎◌, List, ℕ, ◌≤◌, ◌<◌, eqb, length, get_or}
+use Rattle.std.specs.Prelude.{◌≡◌, refl, ◌⊎◌, Result, Ok, List, ℕ, ◌≤◌, ◌<◌, eqb, length, get_or}
 use Rattle.std.proofs.Common.{sym, ap, ◌∙◌, subst, inl, inr, arith}
 use Rattle.std.proofs.Math.Option.{none}
 use Rattle.automaton.specs.declared.Automaton.{Automaton}
+use Rattle.refusals.specs.declared.Refusal.{Refusal}
 use Rattle.automaton.specs.Value.{Valid}
 use Rattle.encoding.specs.Clauses.{Assignment, Satisfies}
 use Rattle.clause_sizes.specs.declared.Target.{Target}
@@ -20,15 +21,16 @@ use Rattle.solver_agreement.specs.Range.{run_kept}
 use Rattle.solver_agreement.specs.Table.{table_asserted}
 use Rattle.solver_agreement.specs.Pieces.{pieces, fresh_range, Tells, whole_text}
 use Rattle.decode.specs.declared.Decoded.{Decoded}
+use Rattle.decode.specs.declared.Decoded.TheVariants.{Table}
 use Rattle.decode.specs.Table.{decoded_value, LowestWithout}
-use Rattle.decode.specs.Answers.{whole, said, found, Untouched, ByComparison, ByAssignment, Admitted, Decodes, OfText}
+use Rattle.decode.specs.Answers.{whole, said, Untouched, ByComparison, ByAssignment, Admitted, Decodes, OfText}
 use Rattle.decode.specs.Value.{steps_same, all_step_same, decoded_same_value}
 use Rattle.decode.specs.Candidates.{satisfying_steps, satisfying_found}
 use Rattle.solver_agreement.specs.Ended.{end_kept, end_again}
 
 -- ---- the step and mark variables decide the answer
 
-module _ (p p' l l' : List ℕ) (x : Decoded) (a : Automaton) (τ : Target) (ν ξ : Assignment) (same : (k : ℕ) → 0 < k → k ≤ kept a τ → ν k ≡ ξ k) where
+module _ (p p' l l' : List ℕ) (x : Result Decoded Refusal) (a : Automaton) (τ : Target) (ν ξ : Assignment) (same : (k : ℕ) → 0 < k → k ≤ kept a τ → ν k ≡ ξ k) where
   turned : (k : ℕ) → 0 < k → k ≤ kept a τ → ξ k ≡ ν k
   turned k h g = sym (same k h g)
 
@@ -59,7 +61,7 @@ module _ {a : Automaton} {τ : Target} (v : Valid a) (z : Proper τ) where
   ends_whole : {q : Reader} → InRange q → Ends a τ q (whole a τ q)
   ends_whole i = called_text v i z refl
 
-  module _ {p p' l l' : List ℕ} {x : Decoded} (hp : prefix_room ≤ length p) (hl : loop_room ≤ length l) where
+  module _ {p p' l l' : List ℕ} {x : Result Decoded Refusal} (hp : prefix_room ≤ length p) (hl : loop_room ≤ length l) where
     -- what a reader holds
     held_answer : {r : Reader} (o : Outcome) → InRange r → Tells (kept a τ) o (whole a τ r) → Decodes p p' l l' x a τ r → OfText p p' l l' x a τ o
     held_answer {r} o i t d =
@@ -91,7 +93,7 @@ module _ {a : Automaton} {τ : Target} (v : Valid a) (z : Proper τ) where
 
 -- ---- a text that states an assignment
 
-module _ {p p' l l' : List ℕ} {x : Decoded} {a : Automaton} {τ : Target} (ν : Assignment) where
+module _ {p p' l l' : List ℕ} {x : Result Decoded Refusal} {a : Automaton} {τ : Target} (ν : Assignment) where
   pub stated_answer : (text : List ℕ) → States (last a τ) (kept a τ) text ν → OfText p p' l l' x a τ (outcome (last a τ) (kept a τ) text)
       → ByAssignment p p' l l' x a τ ν
   stated_answer text s o =
@@ -99,15 +101,15 @@ module _ {p p' l l' : List ℕ} {x : Decoded} {a : Automaton} {τ : Target} (ν 
 
   -- where it satisfies the file, the table that it decodes to, and both buffers as they were
   pub satisfying_answer : Valid a → Proper τ → Satisfies ν (file a τ) → ByAssignment p p' l l' x a τ ν
-      → Untouched p p' l l' x (found (decoded_value a τ ν)) none
+      → Untouched p p' l l' x (Ok (Table (decoded_value a τ ν))) none
   satisfying_answer v z s b = (b.table (satisfying_steps v z ν s)).same (satisfying_found v z ν s).agrees
 
-module _ {a : Automaton} {τ : Target} (v : Valid a) (z : Proper τ) {p p' l l' : List ℕ} {x : Decoded} (hp : prefix_room ≤ length p) (hl : loop_room ≤ length l)
+module _ {a : Automaton} {τ : Target} (v : Valid a) (z : Proper τ) {p p' l l' : List ℕ} {x : Result Decoded Refusal} (hp : prefix_room ≤ length p) (hl : loop_room ≤ length l)
     (ν : Assignment) (s : Satisfies ν (file a τ)) where
   -- for every list of pieces that make up a text which states an assignment that satisfies the file
   module _ {us : List (List ℕ)} {q : Reader} (k : Reads a τ fresh us q) (t : States (last a τ) (kept a τ) (joined us) ν) where
-    pub satisfying_text : Decodes p p' l l' x a τ q → Untouched p p' l l' x (found (decoded_value a τ ν)) none
+    pub satisfying_text : Decodes p p' l l' x a τ q → Untouched p p' l l' x (Ok (Table (decoded_value a τ ν))) none
     satisfying_text d = satisfying_answer ν v z s (stated_answer ν (joined us) t (text_answer v z hp hl k d))
 
-    pub satisfying_ended : {e : Reply} → Ends a τ q e → Decodes p p' l l' x a τ e.reader → Untouched p p' l l' x (found (decoded_value a τ ν)) none
+    pub satisfying_ended : {e : Reply} → Ends a τ q e → Decodes p p' l l' x a τ e.reader → Untouched p p' l l' x (Ok (Table (decoded_value a τ ν))) none
     satisfying_ended c d = satisfying_answer ν v z s (stated_answer ν (joined us) t (ended_answer v z hp hl k c d))

@@ -1,5 +1,5 @@
 -- The comparison is judged by its conditions.
-use Rattle.std.specs.Prelude.{◌≡◌, refl, ◌≢◌, ◌⊎◌, List, [], ℕ, length}
+use Rattle.std.specs.Prelude.{◌≡◌, refl, ◌≢◌, ◌⊎◌, Result, Ok, Err, List, [], ℕ, length}
 use Rattle.std.proofs.Common.{sym, ap, ◌∙◌, inl, inr, arith}
 use Rattle.std.proofs.Math.Logic.Dec.{and as dec_and}
 use Rattle.std.proofs.Math.Option.{some, some_inj}
@@ -7,14 +7,12 @@ use Rattle.std.proofs.Math.Decide.{ℕ_discrete, dec_le}
 use Rattle.automaton.specs.declared.Automaton.{Automaton}
 use Rattle.refusals.specs.declared.Code.{Code}
 use Rattle.refusals.specs.declared.Refusal.{Refusal}
-use Rattle.compare.specs.declared.Comparison.{Comparison}
-use Rattle.compare.specs.declared.Comparison.TheVariants.{Same, Refused}
 use Rattle.compare.specs.Compared.{Compared, Untouched, returned as comparison-said, prefix_room, loop_room}
 use Rattle.demands.specs.Judgement.{TurnedDown, Accepted}
 use Rattle.demands.specs.Conditions.{to_compare, JudgesComparison}
 use Rattle.demands.proofs.Decisions.{Decided, decision, some_none, other_number, judged_refused, judged_accepted, valid_decided, agree_decided}
 
-module _ {a b : Automaton} {prefix prefix-after loop loop-after : List ℕ} {answer : Comparison} (c : Compared a b prefix prefix-after loop loop-after answer) where
+module _ {a b : Automaton} {prefix prefix-after loop loop-after : List ℕ} {answer : Result (Unit {0}) Refusal} (c : Compared a b prefix prefix-after loop loop-after answer) where
   -- without a word
   abbrev Fails : Code → Type 0
   Fails = TurnedDown (to_compare a b (length prefix) (length loop) 0 0)
@@ -34,11 +32,11 @@ module _ {a b : Automaton} {prefix prefix-after loop loop-after : List ℕ} {ans
     ),
   )
 
-  refused_same : {P : Type 0} {k : Code} → comparison-said answer ≡ some k → answer ≡ Same → P
+  refused_same : {P : Type 0} {k : Code} → comparison-said answer ≡ some k → answer ≡ Ok tt → P
   refused_same e s = some_none (sym e ∙ ap comparison-said s)
 
   -- a refusal that leaves both buffers as they were
-  refusal : {f : Refusal} {k r : Code} → Fails k → Untouched a b prefix prefix-after loop loop-after answer (Refused f) (some r) → k ≡ r → r.number ≢ 12
+  refusal : {f : Refusal} {k r : Code} → Fails k → Untouched a b prefix prefix-after loop loop-after answer (Err f) (some r) → k ≡ r → r.number ≢ 12
       → JudgesComparison a b prefix prefix-after loop loop-after answer
   refusal {k = k} t (e, p, l, n) g other =
       let said : comparison-said answer ≡ some k = n ∙ ap some (sym g) in

@@ -1,15 +1,14 @@
 -- The comparison has one outcome: two that its promise allows are the same.
-use Rattle.std.specs.Prelude.{◌≡◌, List, ◌++◌, ℕ, ◌≤◌, length, drop}
+use Rattle.std.specs.Prelude.{◌≡◌, Result, Err, List, ◌++◌, ℕ, ◌≤◌, length, drop}
 use Rattle.std.proofs.Common.{sym, ap, ap₂, ◌∙◌, arith}
 use Rattle.std.proofs.Math.Decide.{ℕ_discrete, dec_le}
 use Rattle.meaning.specs.Agreement.{Agree}
 use Rattle.meaning.proofs.FirstWordLaws.{first_word_once}
 use Rattle.automaton.specs.declared.Automaton.{Automaton}
+use Rattle.refusals.specs.declared.Refusal.{Refusal}
 use Rattle.refusals.specs.declared.Refusal.TheVariants.{Differ}
 use Rattle.automaton.specs.Value.{Valid}
 use Rattle.automaton.specs.View.{view}
-use Rattle.compare.specs.declared.Comparison.{Comparison}
-use Rattle.compare.specs.declared.Comparison.TheVariants.{Refused}
 use Rattle.compare.specs.Compared.{Compared, Shown, prefix_room, loop_room}
 use Rattle.demands.proofs.Decisions.{valid_decided, agree_decided}
 
@@ -23,7 +22,7 @@ pub alike : {R X Y : Type 0} {x y z : R} {prefix p q loop l m : List ℕ} → (x
 alike (e, ep, el, _) (f, fp, fl, _) = (e ∙ sym f, ep ∙ sym fp, el ∙ sym fl)
 
 -- the word of 12, and an answer that tells its lengths
-module _ {a b : Automaton} {prefix p q loop l m : List ℕ} {c d : Comparison} (S : Shown a b prefix p loop l c) (T : Shown a b prefix q loop m d) where
+module _ {a b : Automaton} {prefix p q loop l m : List ℕ} {c d : Result (Unit {0}) Refusal} (S : Shown a b prefix p loop l c) (T : Shown a b prefix q loop m d) where
   one_word : (S.x ≡ T.x) × (S.y ≡ T.y)
   one_word = first_word_once S.word T.word
 
@@ -36,9 +35,9 @@ module _ {a b : Automaton} {prefix p q loop l m : List ℕ} {c d : Comparison} (
 
 -- ---- the comparison
 
-module _ {a b : Automaton} {prefix p q loop l m : List ℕ} {x y : Comparison} (c : Compared a b prefix p loop l x) (d : Compared a b prefix q loop m y) where
+module _ {a b : Automaton} {prefix p q loop l m : List ℕ} {x y : Result (Unit {0}) Refusal} (c : Compared a b prefix p loop l x) (d : Compared a b prefix q loop m y) where
   shown : Shown a b prefix p loop l x → Shown a b prefix q loop m y → Alike x y p q l m
-  shown S T = alike_word S T (λ u v. Refused (Differ u v)) S.says T.says
+  shown S T = alike_word S T (λ u v. Err (Differ u v)) S.says T.says
 
   module _ (h : prefix_room ≤ length prefix) (g : loop_room ≤ length loop) where
     by_agreement : (v : Valid a) (w : Valid b) (e : a.propositions ≡ b.propositions) → Dec (Agree (view a) (view b)) → Alike x y p q l m

@@ -1,5 +1,5 @@
 -- The decoder is judged by its conditions.
-use Rattle.std.specs.Prelude.{◌≡◌, refl, ◌≢◌, ◌⊎◌, List, [], ℕ, ◌≤◌, length}
+use Rattle.std.specs.Prelude.{◌≡◌, refl, ◌≢◌, ◌⊎◌, Result, Ok, Err, List, [], ℕ, ◌≤◌, length}
 use Rattle.std.proofs.Common.{sym, ap, ◌∙◌, subst, inl, inr, ⊎_elim, arith}
 use Rattle.std.proofs.Math.Logic.Dec.{and as dec_and, not as dec_not, not-not as dec_not_not}
 use Rattle.std.proofs.Math.Option.{Option, none, some, some_inj}
@@ -16,15 +16,12 @@ use Rattle.clause_sizes.specs.declared.Target.{Target}
 use Rattle.clause_sizes.specs.Targets.{Dimensioned, Proper, last, kept}
 use Rattle.compare.specs.Compared.{prefix_room, loop_room}
 use Rattle.solver_text.specs.declared.Reader.{Reader}
-use Rattle.solver_text.specs.declared.Answer as solution
-use Rattle.solver_text.specs.declared.Answer.TheVariants as reading
 use Rattle.solver_scan.specs.declared.Verdict.{Verdict}
 use Rattle.solver_scan.specs.declared.Verdict.TheVariants.{Unstated, Satisfiable, Unsatisfiable, Unknown}
 use Rattle.solver_text.specs.Machine.{end}
 use Rattle.solver_text.specs.Calls.{InRange, returned as solution-said}
-use Rattle.decode.specs.declared.Answer.TheVariants.{Refused}
 use Rattle.decode.specs.declared.Decoded.{Decoded}
-use Rattle.decode.specs.Answers.{whole, without, Untouched, Admitted, ByVerdict, Decodes, returned as decoder-said}
+use Rattle.decode.specs.Answers.{whole, Untouched, Admitted, ByVerdict, Decodes, returned as decoder-said}
 use Rattle.decode.specs.Table.{decoded_value, AllStep, LowestWithout}
 use Rattle.decode.specs.Value.{decoded_valid}
 use Rattle.decode.specs.Missing.{all_or_lowest}
@@ -61,31 +58,31 @@ where_satisfiable {v} {P} (yes s) d = go (d s)
 
 -- ---- an answer of the reader
 
-answer_accepted : (w : solution.Answer) → solution-said w ≡ none → w ≡ reading.Accepted
-answer_accepted reading.Accepted e = refl
-answer_accepted (reading.Refused f) e = some_none e
+answer_accepted : (w : Result (Unit {0}) Refusal) → solution-said w ≡ none → w ≡ Ok tt
+answer_accepted (Ok u) e = refl
+answer_accepted (Err f) e = some_none e
 
-answer_refused : (w : solution.Answer) → ¬ (solution-said w ≡ none) → (f : Refusal) × (w ≡ reading.Refused f)
-answer_refused reading.Accepted k = absurd (k refl)
-answer_refused (reading.Refused f) k = (f, refl)
+answer_refused : (w : Result (Unit {0}) Refusal) → ¬ (solution-said w ≡ none) → (f : Refusal) × (w ≡ Err f)
+answer_refused (Ok u) k = absurd (k refl)
+answer_refused (Err f) k = (f, refl)
 
 -- ---- the decoder
 
-module _ {prefix prefix-after loop loop-after : List ℕ} {answer : Decoded} {a : Automaton} {τ : Target} {r : Reader}
+module _ {prefix prefix-after loop loop-after : List ℕ} {answer : Result Decoded Refusal} {a : Automaton} {τ : Target} {r : Reader}
     (d : Decodes prefix prefix-after loop loop-after answer a τ r) where
   abbrev ν : Assignment
   ν = stated_by a τ r
 
-  abbrev Result : Type 0
-  Result = JudgesDecoding a τ r prefix prefix-after loop loop-after answer
+  abbrev Judges : Type 0
+  Judges = JudgesDecoding a τ r prefix prefix-after loop loop-after answer
 
-  abbrev Kept : Decoded → Option Code → Type 0
+  abbrev Kept : Result Decoded Refusal → Option Code → Type 0
   Kept = Untouched prefix prefix-after loop loop-after answer
 
-  outside : prefix_room ≤ length prefix → loop_room ≤ length loop → ¬ (Valid a × InRange r) → Kept (without (Refused Outside)) (some (row 4 0 0))
+  outside : prefix_room ≤ length prefix → loop_room ≤ length loop → ¬ (Valid a × InRange r) → Kept (Err Outside) (some (row 4 0 0))
   outside h g k = go (valid_decided a)
     where
-      go : Dec (Valid a) → Kept (without (Refused Outside)) (some (row 4 0 0))
+      go : Dec (Valid a) → Kept (Err Outside) (some (row 4 0 0))
       go (yes v) = d.state h g (λ i. k (v, i))
       go (no v) = d.automaton h g v
 
@@ -101,7 +98,7 @@ module _ {prefix prefix-after loop loop-after : List ℕ} {answer : Decoded} {a 
   proper z o = record { dimensioned = z; sets_owned = o }
 
   -- what a text is refused with is 9 or 10
-  text_number : (f : Refusal) → (whole a τ r).answer ≡ reading.Refused f → (code_of f).number ≢ 12
+  text_number : (f : Refusal) → (whole a τ r).answer ≡ Err f → (code_of f).number ≢ 12
   text_number f e is =
       ⊎_elim (λ t. omega arith) (λ t. omega arith) (fault_number (end (last a τ) (kept a τ) r) (code_of f) (ap solution-said e))
 
@@ -152,9 +149,9 @@ module _ {prefix prefix-after loop loop-after : List ℕ} {answer : Decoded} {a 
             go (inr (q, l, w)) = no (λ t. w.no_step (t q l w.state_lt w.letter_lt))
 
     -- a refusal that leaves both buffers as they were
-    refusal : {f : Refusal} {k : Code} → Fails k → Kept (without (Refused f)) (some (code_of f)) → k ≡ code_of f → (code_of f).number ≢ 12 → Result
+    refusal : {f : Refusal} {k : Code} → Fails k → Kept (Err f) (some (code_of f)) → k ≡ code_of f → (code_of f).number ≢ 12 → Judges
     refusal {f} {k} t (e, p, l, returns) g other =
-        let said : decoder-said answer.answer ≡ some k = returns ∙ ap some (sym g) in
+        let said : decoder-said answer ≡ some k = returns ∙ ap some (sym g) in
         record {
           state = state;
           letter = letter;
@@ -167,7 +164,7 @@ module _ {prefix prefix-after loop loop-after : List ℕ} {answer : Decoded} {a 
           accepted = λ s. some_none (sym said ∙ s);
         }
 
-    acceptance : {w : Verdict} {y : Decoded} → Passes → verdict_of a τ r ≡ w → (answer ≡ y → Answers w (decoded_value a τ ν) answer) → Kept y none → Result
+    acceptance : {w : Verdict} {y : Result Decoded Refusal} → Passes → verdict_of a τ r ≡ w → (answer ≡ y → Answers w (decoded_value a τ ν) answer) → Kept y none → Judges
     acceptance t q is (e, p, l, returns) = record {
       state = state;
       letter = letter;
@@ -180,7 +177,7 @@ module _ {prefix prefix-after loop loop-after : List ℕ} {answer : Decoded} {a 
       accepted = λ s. (subst (λ w. Answers w (decoded_value a τ ν) answer) (sym q) (is e), p, l);
     }
 
-    result : ((k : Code) × Fails k) ⊎ Passes → Result
+    result : ((k : Code) × Fails k) ⊎ Passes → Judges
     result (inl (k, inl (h, e))) = refusal (inl (h, e)) (d.short_prefix (omega arith)) e (λ is. omega arith)
     result (inl (k, inr (h, inl (g, e)))) = refusal (inr (h, inl (g, e))) (d.short_loop h (omega arith)) e (λ is. omega arith)
     result (inl (k, inr (h, inr (g, inl (v, e))))) = refusal (inr (h, inr (g, inl (v, e)))) (outside h g v) e (λ is. omega arith)
@@ -196,14 +193,14 @@ module _ {prefix prefix-after loop loop-after : List ℕ} {answer : Decoded} {a 
         refusal (inr (h, inr (g, inr (v, inr (z, inr (o, inr (f, inl (u, e)))))))) ((accepting h g v (proper z o) f).unstated ((dec_not_not (unstated_decided (verdict_of a τ r))).0 u)) e (λ is. omega arith)
     result (inl (k, inr (h, inr (g, inr (v, inr (z, inr (o, inr (f, inr (u, inl (t, e)))))))))) = stuck (satisfiable_decided (verdict_of a τ r))
       where
-        stuck : Dec (verdict_of a τ r ≡ Satisfiable) → Result
+        stuck : Dec (verdict_of a τ r ≡ Satisfiable) → Judges
         stuck (no j) = absurd (t (λ s. absurd (j s)))
         stuck (yes s) =
             refusal (inr (h, inr (g, inr (v, inr (z, inr (o, inr (f, inr (u, inl (t, e)))))))))
             (((accepting h g v (proper z o) f).satisfiable s).no_step state letter (low (λ all. t (λ s. all)))) e (λ is. omega arith)
     result (inl (k, inr (h, inr (g, inr (v, inr (z, inr (o, inr (f, inr (u, inr (t, inl (j, e))))))))))) = differing (satisfiable_decided (verdict_of a τ r))
       where
-        differing : Dec (verdict_of a τ r ≡ Satisfiable) → Result
+        differing : Dec (verdict_of a τ r ≡ Satisfiable) → Judges
         differing (no i) = absurd (j (λ s. absurd (i s)))
         differing (yes s) =
             let w = (((accepting h g v (proper z o) f).satisfiable s).table (t s)).differ (λ agree. j (λ s. agree)) in
@@ -222,7 +219,7 @@ module _ {prefix prefix-after loop loop-after : List ℕ} {answer : Decoded} {a 
     result (inl (k, inr (h, inr (g, inr (v, inr (z, inr (o, inr (f, inr (u, inr (t, inr (j, e))))))))))) = absurd e
     result (inr (h, (g, (v, (z, (o, (f, (u, (t, (j, e)))))))))) = go (verdict_of a τ r) refl
       where
-        go : (w : Verdict) → verdict_of a τ r ≡ w → Result
+        go : (w : Verdict) → verdict_of a τ r ≡ w → Judges
         go Unstated q = absurd (u q)
         go Satisfiable q = acceptance (h, (g, (v, (z, (o, (f, (u, (t, (j, e))))))))) q (λ e. e) ((((accepting h g v (proper z o) f).satisfiable q).table (t q)).same (j q))
         go Unsatisfiable q = acceptance (h, (g, (v, (z, (o, (f, (u, (t, (j, e))))))))) q (λ e. e) ((accepting h g v (proper z o) f).none q)
@@ -231,10 +228,10 @@ module _ {prefix prefix-after loop loop-after : List ℕ} {answer : Decoded} {a 
   pub decoder_judged : JudgesDecoding a τ r prefix prefix-after loop loop-after answer
   decoder_judged = go (all_or_lowest a τ (stated_by a τ r))
     where
-      from : (state letter : ℕ) → (¬ AllStep a τ (stated_by a τ r) → LowestWithout a τ (stated_by a τ r) state letter) → Result
+      from : (state letter : ℕ) → (¬ AllStep a τ (stated_by a τ r) → LowestWithout a τ (stated_by a τ r) state letter) → Judges
       from state letter low =
           result state letter low (decision (to_decode a τ r (length prefix) (length loop) state letter 0 0) (decided state letter low))
 
-      go : AllStep a τ (stated_by a τ r) ⊎ ((q l : ℕ) × LowestWithout a τ (stated_by a τ r) q l) → Result
+      go : AllStep a τ (stated_by a τ r) ⊎ ((q l : ℕ) × LowestWithout a τ (stated_by a τ r) q l) → Judges
       go (inl t) = from 0 0 (λ k. absurd (k t))
       go (inr (q, l, w)) = from q l (λ k. w)

@@ -1,10 +1,11 @@
 -- The decoder has one outcome: two that its promise allows are the same.
-use Rattle.std.specs.Prelude.{◌≡◌, refl, ◌⊎◌, List, ℕ, ◌≤◌, length}
+use Rattle.std.specs.Prelude.{◌≡◌, refl, ◌⊎◌, Result, Ok, Err, List, ℕ, ◌≤◌, length}
 use Rattle.std.proofs.Common.{inl, inr, arith}
 use Rattle.std.proofs.Math.Decide.{dec_le}
 use Rattle.meaning.specs.Agreement.{Agree}
 use Rattle.acceptance.specs.Masks.{OwnSets}
 use Rattle.automaton.specs.declared.Automaton.{Automaton}
+use Rattle.refusals.specs.declared.Refusal.{Refusal}
 use Rattle.refusals.specs.declared.Refusal.TheVariants.{Differ}
 use Rattle.automaton.specs.Value.{Valid}
 use Rattle.automaton.specs.View.{view}
@@ -13,23 +14,20 @@ use Rattle.clause_sizes.specs.declared.Target.{Target}
 use Rattle.clause_sizes.specs.Targets.{Dimensioned, Proper}
 use Rattle.compare.specs.Compared.{prefix_room, loop_room}
 use Rattle.solver_text.specs.declared.Reader.{Reader}
-use Rattle.solver_text.specs.declared.Answer as solution
-use Rattle.solver_text.specs.declared.Answer.TheVariants as reading
 use Rattle.solver_scan.specs.declared.Verdict.{Verdict}
 use Rattle.solver_scan.specs.declared.Verdict.TheVariants.{Unstated, Satisfiable, Unsatisfiable, Unknown}
 use Rattle.solver_text.specs.Calls.{InRange}
-use Rattle.decode.specs.declared.Answer.TheVariants.{Refused}
 use Rattle.decode.specs.declared.Decoded.{Decoded}
-use Rattle.decode.specs.Answers.{whole, said, without, Differs, ByComparison, ByAssignment, ByVerdict, Admitted, Decodes}
+use Rattle.decode.specs.Answers.{whole, said, Differs, ByComparison, ByAssignment, ByVerdict, Admitted, Decodes}
 use Rattle.decode.specs.Table.{decoded_value, AllStep, LowestWithout}
 use Rattle.decode.specs.Value.{decoded_valid}
 use Rattle.decode.specs.Missing.{all_or_lowest}
 use Rattle.demands.proofs.Decisions.{valid_decided, in_range_decided, dimensioned_decided, own_sets_decided, agree_decided}
 use Rattle.demands.proofs.ComparisonOnce.{Alike, alike, alike_word}
 
-module _ {prefix p q loop l m : List ℕ} {x y : Decoded} {a : Automaton} where
+module _ {prefix p q loop l m : List ℕ} {x y : Result Decoded Refusal} {a : Automaton} where
   differs : {C : Automaton} → Differs prefix p loop l x a C → Differs prefix q loop m y a C → Alike x y p q l m
-  differs D E = alike_word D.shown E.shown (λ u v. without (Refused (Differ u v))) D.says E.says
+  differs D E = alike_word D.shown E.shown (λ u v. Err (Differ u v)) D.says E.says
 
   by_agreement : {C : Automaton} → ByComparison prefix p loop l x a C → ByComparison prefix q loop m y a C → Dec (Agree (view C) (view a)) → Alike x y p q l m
   by_agreement D E (yes s) = alike (D.same s) (E.same s)
@@ -47,11 +45,11 @@ module _ {prefix p q loop l m : List ℕ} {x y : Decoded} {a : Automaton} where
     by_verdict D E Unsatisfiable e = alike (D.none e) (E.none e)
     by_verdict D E Unknown e = alike (D.unknown e) (E.unknown e)
 
-module _ {prefix p q loop l m : List ℕ} {x y : Decoded} {a : Automaton} {τ : Target} {r : Reader} (D : Decodes prefix p loop l x a τ r) (E : Decodes prefix q loop m y a τ r) where
+module _ {prefix p q loop l m : List ℕ} {x y : Result Decoded Refusal} {a : Automaton} {τ : Target} {r : Reader} (D : Decodes prefix p loop l x a τ r) (E : Decodes prefix q loop m y a τ r) where
   by_text : Valid a → Proper τ → Admitted prefix p loop l x a τ r → Admitted prefix q loop m y a τ r
-      → (w : solution.Answer) → (whole a τ r).answer ≡ w → Alike x y p q l m
-  by_text v z A B (reading.Refused f) e = alike (D.text A f e) (E.text B f e)
-  by_text v z A B reading.Accepted e = by_verdict v z (D.accepted A e) (E.accepted B e) (whole a τ r).reader.scan.verdict refl
+      → (w : Result (Unit {0}) Refusal) → (whole a τ r).answer ≡ w → Alike x y p q l m
+  by_text v z A B (Err f) e = alike (D.text A f e) (E.text B f e)
+  by_text v z A B (Ok u) e = by_verdict v z (D.accepted A e) (E.accepted B e) (whole a τ r).reader.scan.verdict refl
 
   module _ (h : prefix_room ≤ length prefix) (g : loop_room ≤ length loop) where
     by_values : Dec (Valid a) → Dec (InRange r) → Dec (Dimensioned τ) → Dec (OwnSets τ.acceptance τ.sets) → Alike x y p q l m

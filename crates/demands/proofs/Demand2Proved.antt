@@ -1,5 +1,5 @@
 -- The proof of `Demand2`.
-use Rattle.std.specs.Prelude.{◌≡◌, refl, ◌⊎◌, ◌↔◌, List, ℕ, length, take, drop}
+use Rattle.std.specs.Prelude.{◌≡◌, refl, ◌⊎◌, ◌↔◌, Result, Ok, List, ℕ, length, take, drop}
 use Rattle.std.proofs.Common.{ap, ◌∙◌, inl, inr, take_at}
 use Rattle.meaning.specs.Agreement.{Agree, AgreeEverywhere, Comparable}
 use Rattle.meaning.proofs.AllWords.{agree_everywhere}
@@ -7,11 +7,10 @@ use Rattle.meaning.specs.FirstWord.{FirstWord}
 use Rattle.meaning.proofs.FirstWordLaws.{first_word_once, first_word_flip}
 use Rattle.meaning.proofs.FirstWordExists.{agree_or_first}
 use Rattle.automaton.specs.declared.Automaton.{Automaton}
+use Rattle.refusals.specs.declared.Refusal.{Refusal}
 use Rattle.automaton.specs.Value.{Valid}
 use Rattle.automaton.specs.View.{view}
 use Rattle.automaton.specs.ViewLaws.{view_comparable}
-use Rattle.compare.specs.declared.Comparison.{Comparison}
-use Rattle.compare.specs.declared.Comparison.TheVariants.{Same}
 use Rattle.compare.specs.Compared.{Compared, returned as comparison-said}
 use Rattle.compare.specs.Bounds.{word_bounds}
 use Rattle.hoa_text.specs.Reading.{read}
@@ -24,13 +23,13 @@ use Rattle.demands.proofs.DecoderOnce.{decoding_once}
 use Rattle.demands.proofs.SearchOnce.{finding_once}
 use Rattle.demands.specs.Demand2.{Admitted, Compares, TheWord, Demand2}
 
-module _ {a b : Automaton} {prefix prefix-after loop loop-after : List ℕ} {answer : Comparison} (c : Compared a b prefix prefix-after loop loop-after answer) where
-  said_same : answer ≡ Same → Admitted a b prefix loop × Agree (view a) (view b)
+module _ {a b : Automaton} {prefix prefix-after loop loop-after : List ℕ} {answer : Result (Unit {0}) Refusal} (c : Compared a b prefix prefix-after loop loop-after answer) where
+  said_same : answer ≡ Ok tt → Admitted a b prefix loop × Agree (view a) (view b)
   said_same e =
       let (h, (g, (v, (p, (s, t))))) = (comparison_judged c).judged.accepted.0 (ap comparison-said e) in
       (record { prefix_room_fits = h; loop_room_fits = g; first = v.0; second = v.1; letters = p }, s)
 
-  says_same : Admitted a b prefix loop → Agree (view a) (view b) → answer ≡ Same
+  says_same : Admitted a b prefix loop → Agree (view a) (view b) → answer ≡ Ok tt
   says_same t s = (c.same t.prefix_room_fits t.loop_room_fits t.first t.second t.letters s).0
 
   all_words : Admitted a b prefix loop → Agree (view a) (view b) ↔ AgreeEverywhere (view a) (view b)

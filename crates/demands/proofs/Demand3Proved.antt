@@ -1,8 +1,9 @@
 -- The proof of `Demand3`.
-use Rattle.std.specs.Prelude.{◌≡◌, refl, ◌↔◌, List, ℕ, ◌≤◌, length}
+use Rattle.std.specs.Prelude.{◌≡◌, refl, ◌↔◌, Result, Ok, List, ℕ, ◌≤◌, length}
 use Rattle.std.proofs.Common.{sym, ap, subst, arith}
 use Rattle.std.proofs.Math.Option.{none}
 use Rattle.automaton.specs.declared.Automaton.{Automaton}
+use Rattle.refusals.specs.declared.Refusal.{Refusal}
 use Rattle.automaton.specs.Value.{Valid}
 use Rattle.automaton.specs.View.{view}
 use Rattle.automaton.specs.ViewLaws.{view_formed}
@@ -20,7 +21,8 @@ use Rattle.solver_text.specs.declared.Reader.{Reader}
 use Rattle.solver_agreement.specs.Assignment.{States}
 use Rattle.solver_text.specs.Calls.{joined}
 use Rattle.decode.specs.declared.Decoded.{Decoded}
-use Rattle.decode.specs.Answers.{Untouched, Decodes, found}
+use Rattle.decode.specs.declared.Decoded.TheVariants.{Table}
+use Rattle.decode.specs.Answers.{Untouched, Decodes}
 use Rattle.decode.specs.Found.{Found}
 use Rattle.decode.specs.Candidates.{satisfying_steps, satisfying_found, found_decoded, satisfiable as can-be-satisfied}
 use Rattle.decode.specs.Texts.{satisfying_text, satisfying_ended}
@@ -30,7 +32,7 @@ use Rattle.demands.specs.Demand3.{Held, Delivers, Demand3, read, ended}
 
 module _ {reference : Automaton} {τ : Target} (v : Valid reference) (d : Proper τ) where
   delivered : (ν : Assignment) → Satisfies ν (file reference τ) → (pieces : List (List ℕ)) → States (last reference τ) (kept reference τ) (joined pieces) ν
-      → (r : Reader) → Held reference τ pieces r → (prefix prefix-after loop loop-after : List ℕ) (answer : Decoded)
+      → (r : Reader) → Held reference τ pieces r → (prefix prefix-after loop loop-after : List ℕ) (answer : Result Decoded Refusal)
       → Decodes prefix prefix-after loop loop-after answer reference τ r → Delivers (decoded_value reference τ ν) prefix prefix-after loop loop-after answer
   delivered ν s pieces t r h prefix prefix-after loop loop-after answer c = record {
     table = by_held h c;
@@ -39,7 +41,7 @@ module _ {reference : Automaton} {τ : Target} (v : Valid reference) (d : Proper
   }
     where
       by_held : {r : Reader} → Held reference τ pieces r → Decodes prefix prefix-after loop loop-after answer reference τ r → prefix_room ≤ length prefix → loop_room ≤ length loop
-          → Untouched prefix prefix-after loop loop-after answer (found (decoded_value reference τ ν)) none
+          → Untouched prefix prefix-after loop loop-after answer (Ok (Table (decoded_value reference τ ν))) none
       by_held (read k) c p l = satisfying_text v d p l ν s k t c
       by_held (ended k e) c p l = satisfying_ended v d p l ν s k t e c
 

@@ -1,22 +1,21 @@
 -- The reader and the writer of HOA text are judged by their conditions.
 use Rattle.std.specs.Prelude.{◌≡◌, refl, Bool, cond, List, ℕ, leb, length}
+use Rattle.std.specs.Prelude.{Result as Reading, Ok}
 use Rattle.std.proofs.Common.{sym, ap, ◌∙◌, subst, inl, inr, arith, le-leb}
 use Rattle.std.proofs.Math.Option.{some}
 use Rattle.std.proofs.Math.Decide.{dec_le}
 use Rattle.std.proofs.lemmas.Bool.{lt-leb}
 use Rattle.automaton.specs.declared.Automaton.{Automaton}
 use Rattle.refusals.specs.declared.Code.{Code}
+use Rattle.refusals.specs.declared.Refusal.{Refusal}
 use Rattle.refusals.specs.declared.Refusal.TheVariants.{Size}
 use Rattle.automaton.specs.Value.{Valid}
 use Rattle.hoa_text.specs.Accepted.{accepted_valid}
 use Rattle.hoa_text.specs.Grammar.{Result, gives, refuses}
 use Rattle.hoa_text.specs.Reading.{reading, text_limit, read}
 use Rattle.hoa_text.specs.Tokens.{tokens}
-use Rattle.hoa_read.specs.declared.Reading.{Reading}
-use Rattle.hoa_read.specs.declared.Answer.TheVariants.{Read}
 use Rattle.hoa_read.specs.Told.{told, fault as hoa-said, returned as reader-said}
 use Rattle.hoa_read.proofs.ReadLaws.{returned_told}
-use Rattle.hoa_write.specs.declared.Written.{Written}
 use Rattle.hoa_write.specs.Answer.{hoa_room, Answered, returned as writer-said}
 use Rattle.demands.specs.Judgement.{TurnedDown, Judged}
 use Rattle.demands.specs.Conditions.{to_write, to_read}
@@ -35,17 +34,20 @@ text_judged s =
     refused c (inr (h, inl (f, e))) = (by_length (le-leb (length s) text_limit h) ∙ fault_is (hoa-said (reading (tokens s))) c f e, tt)
     refused c (inr (h, inr (f, t))) = absurd t
 
-pub reader_judged : (s : List ℕ) (r : Reading) → r ≡ told (read s) → Judged (to_read s) (reader-said r.answer) (Unit {0})
-reader_judged s r e = subst (λ x. Judged (to_read s) x (Unit {0})) (sym (returned_told (read s)) ∙ ap (λ (r : Reading). reader-said r.answer) (sym e)) (text_judged s)
+pub reader_judged : (s : List ℕ) (r : Reading Automaton Refusal) → r ≡ told (read s) → Judged (to_read s) (reader-said r) (Unit {0})
+reader_judged s r e = subst (λ x. Judged (to_read s) x (Unit {0})) (sym (returned_told (read s)) ∙ ap reader-said (sym e)) (text_judged s)
 
-pub reader_valid : (s : List ℕ) (r : Reading) → r ≡ told (read s) → r.answer ≡ Read → Valid r.automaton
-reader_valid s r e q = go (read s) refl
+pub reader_valid : (s : List ℕ) (r : Reading Automaton Refusal) (a : Automaton) → r ≡ told (read s) → r ≡ Ok a → Valid a
+reader_valid s r a e q = go (read s) refl
   where
-    go : (x : Result Automaton) → read s ≡ x → Valid r.automaton
-    go (gives a) f = subst (λ (r : Reading). Valid r.automaton) (sym (e ∙ ap told f)) (accepted_valid s f)
-    go (refuses x) f = some_none (sym (ap (λ (r : Reading). reader-said r.answer) (e ∙ ap told f)) ∙ ap reader-said q)
+    go : (x : Result Automaton) → read s ≡ x → Valid a
+    go (gives b) f =
+        let h = sym (ap told f) ∙ sym e ∙ q in
+        let g : b ≡ a = cc in
+        subst Valid g (accepted_valid s f)
+    go (refuses x) f = some_none (sym (ap reader-said (e ∙ ap told f)) ∙ ap reader-said q)
 
-pub writer_judged : (a : Automaton) (out after : List ℕ) (answer : Written) → Answered a out after answer
+pub writer_judged : (a : Automaton) (out after : List ℕ) (answer : Reading ℕ Refusal) → Answered a out after answer
     → Judged (to_write a (length out)) (writer-said answer) (after ≡ out)
 writer_judged a out after answer w =
     judged (dec_le hoa_room (length out), λ h. (valid_decided a, λ v. tt)) refused (λ (h, (v, t)). (w.written h v).2)

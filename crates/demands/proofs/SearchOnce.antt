@@ -1,5 +1,5 @@
 -- A found table has one outcome: two that the search's promise allows are the same. The rows of the promise shut each other out.
-use Rattle.std.specs.Prelude.{◌≡◌, ◌⊎◌, false, List, ℕ, ◌≤◌, length}
+use Rattle.std.specs.Prelude.{◌≡◌, ◌⊎◌, Result, Ok, Err, false, List, ℕ, ◌≤◌, length}
 use Rattle.std.proofs.Common.{sym, ◌∙◌, inl, inr, true≢false, arith}
 use Rattle.std.proofs.Math.Option.{Option, none, some}
 use Rattle.meaning.specs.Agreement.{Agree}
@@ -13,9 +13,9 @@ use Rattle.automaton.specs.View.{view}
 use Rattle.compare.specs.Compared.{prefix_room, loop_room}
 use Rattle.search_rule.specs.declared.Search.{Search}
 use Rattle.search_rule.specs.Rule as rule
-use Rattle.search.specs.declared.Answer.TheVariants.{Taken, Finished}
 use Rattle.search.specs.declared.Reply.{Reply}
-use Rattle.search.specs.Replies.{Found, Untouched, Differs, InRange, AskedFor, InfOfAll, refused, replied}
+use Rattle.search.specs.declared.Reply.TheVariants.{Taken, Finished}
+use Rattle.search.specs.Replies.{Found, Untouched, Differs, InRange, AskedFor, InfOfAll}
 use Rattle.search.specs.Replies as state
 use Rattle.demands.proofs.ComparisonOnce.{Alike, alike, alike_word}
 
@@ -32,23 +32,23 @@ row_once f g (inr (h, s)) (inr (i, t)) = g s t
 
 -- ---- a found table
 
-module _ (s : Search) (table : Automaton) (prefix p loop l : List ℕ) (r : Reply) where
-  abbrev Kept : Reply → Option Code → Type 0
+module _ (s : Search) (table : Automaton) (prefix p loop l : List ℕ) (r : Result Reply Refusal) where
+  abbrev Kept : Result Reply Refusal → Option Code → Type 0
   Kept = Untouched s table prefix p loop l r
 
   abbrev Refuses : Refusal → Type 0
-  Refuses f = Kept (refused f s) (some (code_of f))
+  Refuses f = Kept (Err f) (some (code_of f))
 
   abbrev Rows : Type 0
   Rows =
       Row (prefix_room ≤ length prefix) (Refuses (Short prefix_room (length prefix)))
       (Row (loop_room ≤ length loop) (Refuses (Short loop_room (length loop)))
       (Row (InRange s × Valid table) (Refuses Outside)
-      (Row (s.finished ≡ false) (Kept (replied Finished s) none)
+      (Row (s.finished ≡ false) (Kept (Ok Finished) none)
       (Row (AskedFor s table) (Refuses (Dimensions table.states table.sets))
       (Row (InfOfAll table) (Refuses OtherAcceptance)
       (Row (table.propositions ≡ s.reference.propositions) (Refuses (Propositions table.propositions s.reference.propositions))
-      (Row (Agree (view table) (view s.reference)) (Differs s table prefix p loop l r) (Kept (replied Taken (rule.found table s)) none))))))))
+      (Row (Agree (view table) (view s.reference)) (Differs s table prefix p loop l r) (Kept (Ok (Taken (rule.found table s))) none))))))))
 
   rows : Found s table prefix p loop l r → Rows
   rows (state.short_prefix h u) = inl (λ g. absurd (omega arith), u)
@@ -61,9 +61,9 @@ module _ (s : Search) (table : Automaton) (prefix p loop l : List ℕ) (r : Repl
   rows (state.differ m d a i k n w) = inr (m.prefix_room_fits, inr (m.loop_room_fits, inr ((d.in_range, d.valid), inr (d.unfinished, inr (a, inr (i, inr (k, inl (n, w))))))))
   rows (state.taken m d a i k g u) = inr (m.prefix_room_fits, inr (m.loop_room_fits, inr ((d.in_range, d.valid), inr (d.unfinished, inr (a, inr (i, inr (k, inr (g, u))))))))
 
-module _ {s : Search} {table : Automaton} {prefix p q loop l m : List ℕ} {x y : Reply} where
+module _ {s : Search} {table : Automaton} {prefix p q loop l m : List ℕ} {x y : Result Reply Refusal} where
   differs : Differs s table prefix p loop l x → Differs s table prefix q loop m y → Alike x y p q l m
-  differs D E = alike_word D.shown E.shown (λ u v. refused (Differ u v) s) D.says E.says
+  differs D E = alike_word D.shown E.shown (λ u v. Err (Differ u v)) D.says E.says
 
   pub finding_once : Found s table prefix p loop l x → Found s table prefix q loop m y → Alike x y p q l m
   finding_once F G =

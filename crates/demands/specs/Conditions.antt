@@ -1,20 +1,19 @@
 -- DEFINITIONS: what each public function asks of a call, in document 01's "Order: 13 (prefix before loop), 4 for handed values, 8, then reading left to
 -- right, then 11, 14, 12", with what document 02 puts "after 8", and what its answers return: a refusal's number and two values, or none.
-use Rattle.std.specs.Prelude.{◌≡◌, ◌≢◌, false, List, [], ◌∷◌, ◌++◌, ℕ, ◌≤◌, length, drop}
+use Rattle.std.specs.Prelude.{◌≡◌, ◌≢◌, Result, Ok, false, List, [], ◌∷◌, ◌++◌, ℕ, ◌≤◌, length, drop}
 use Rattle.std.proofs.Math.Option.{Option, none, some}
 use Rattle.meaning.specs.Agreement.{Agree}
 use Rattle.meaning.specs.FirstWord.{FirstWord}
 use Rattle.acceptance.specs.Masks.{OwnSets}
 use Rattle.automaton.specs.declared.Automaton.{Automaton}
 use Rattle.refusals.specs.declared.Code.{Code}
+use Rattle.refusals.specs.declared.Refusal.{Refusal}
 use Rattle.refusals.specs.Refused.{row}
 use Rattle.automaton.specs.Value.{Valid}
 use Rattle.automaton.specs.View.{view}
 use Rattle.encoding.specs.Clauses.{Assignment}
 use Rattle.clause_sizes.specs.declared.Target.{Target}
 use Rattle.clause_sizes.specs.Targets.{Dimensioned}
-use Rattle.compare.specs.declared.Comparison.{Comparison}
-use Rattle.compare.specs.declared.Comparison.TheVariants as comparison
 use Rattle.compare.specs.Compared.{returned as comparison-said, prefix_room, loop_room}
 use Rattle.hoa_text.specs.Reading.{reading, text_limit}
 use Rattle.hoa_text.specs.Tokens.{tokens}
@@ -26,9 +25,9 @@ use Rattle.solver_text.specs.declared.Reply.{Reply}
 use Rattle.solver_scan.specs.declared.Verdict.{Verdict}
 use Rattle.solver_scan.specs.declared.Verdict.TheVariants.{Unstated, Satisfiable, Unsatisfiable, Unknown}
 use Rattle.solver_text.specs.Calls.{InRange, returned as solution-said}
-use Rattle.decode.specs.declared.Answer.TheVariants as decoding
+use Rattle.decode.specs.declared.Decoded.TheVariants as decoding
 use Rattle.decode.specs.declared.Decoded.{Decoded}
-use Rattle.decode.specs.Answers.{whole, said, found, without, returned as decoder-said}
+use Rattle.decode.specs.Answers.{whole, said, returned as decoder-said}
 use Rattle.decode.specs.Table.{decoded_value, AllStep, LowestWithout}
 use Rattle.search_rule.specs.declared.Search.{Search}
 use Rattle.search.specs.declared.Reply as state-reply
@@ -72,14 +71,14 @@ abbrev pub Begins : (w buffer after : List ℕ) → Type 0
 Begins w buffer after = after ≡ w ++ drop (length w) buffer
 
 -- A comparison is judged by its conditions. x and y are 12's word, and empty on every other answer, so that both buffers are then as they were.
-pub record JudgesComparison (a b : Automaton) (prefix prefix-after loop loop-after : List ℕ) (answer : Comparison) : Type 0 where
+pub record JudgesComparison (a b : Automaton) (prefix prefix-after loop loop-after : List ℕ) (answer : Result (Unit {0}) Refusal) : Type 0 where
   pub x : List ℕ
   pub y : List ℕ
   pub judged : Judged (to_compare a b (length prefix) (length loop) (length x) (length y)) (comparison-said answer) (Begins x prefix prefix-after × Begins y loop loop-after)
   pub empty : (c : Code) → comparison-said answer ≡ some c → c.number ≢ 12 → (x ≡ []) × (y ≡ [])
   -- where 12 is said, it is the first word that shows that the two differ
   pub shown : (c : Code) → comparison-said answer ≡ some c → c.number ≡ 12 → FirstWord (view a) (view b) x y
-  pub same : answer ≡ comparison.Same → (prefix-after ≡ prefix) × (loop-after ≡ loop)
+  pub same : answer ≡ Ok tt → (prefix-after ≡ prefix) × (loop-after ≡ loop)
 
 -- ---- what is named for a file: "n outside 1 to 8 or m outside 0 to 4", then of the candidate's acceptance "a yes past m: 4, 0, 0, after 8"
 
@@ -129,25 +128,25 @@ module _ (a : Automaton) (τ : Target) (r : Reader) where
       ∷ [])
 
 -- the answer x to a text that is accepted, by its verdict, where C is the table that is decoded
-abbrev pub Answers : Verdict → (C : Automaton) (x : Decoded) → Type 0
+abbrev pub Answers : Verdict → (C : Automaton) (x : Result Decoded Refusal) → Type 0
 Answers Unstated C x = ⊥
-Answers Satisfiable C x = x ≡ found C
-Answers Unsatisfiable C x = x ≡ without decoding.None
-Answers Unknown C x = x ≡ without decoding.Unknown
+Answers Satisfiable C x = x ≡ Ok (decoding.Table C)
+Answers Unsatisfiable C x = x ≡ Ok decoding.None
+Answers Unknown C x = x ≡ Ok decoding.Unknown
 
 -- The decoder is judged by its conditions. State and letter are 11's, "no true step, lowest"; x and y are 12's word, and empty on every other answer.
-pub record JudgesDecoding (a : Automaton) (τ : Target) (r : Reader) (prefix prefix-after loop loop-after : List ℕ) (answer : Decoded) : Type 0 where
+pub record JudgesDecoding (a : Automaton) (τ : Target) (r : Reader) (prefix prefix-after loop loop-after : List ℕ) (answer : Result Decoded Refusal) : Type 0 where
   pub state : ℕ
   pub letter : ℕ
   pub x : List ℕ
   pub y : List ℕ
-  pub judged : Judged (to_decode a τ r (length prefix) (length loop) state letter (length x) (length y)) (decoder-said answer.answer)
+  pub judged : Judged (to_decode a τ r (length prefix) (length loop) state letter (length x) (length y)) (decoder-said answer)
       (Begins x prefix prefix-after × Begins y loop loop-after)
   pub lowest : ¬ AllStep a τ (stated_by a τ r) → LowestWithout a τ (stated_by a τ r) state letter
-  pub empty : (c : Code) → decoder-said answer.answer ≡ some c → c.number ≢ 12 → (x ≡ []) × (y ≡ [])
+  pub empty : (c : Code) → decoder-said answer ≡ some c → c.number ≢ 12 → (x ≡ []) × (y ≡ [])
   -- where 12 is said, it is the first word that shows that the table that is decoded and the reference differ
-  pub shown : (c : Code) → decoder-said answer.answer ≡ some c → c.number ≡ 12 → FirstWord (view (decoded_value a τ (stated_by a τ r))) (view a) x y
-  pub accepted : decoder-said answer.answer ≡ none
+  pub shown : (c : Code) → decoder-said answer ≡ some c → c.number ≡ 12 → FirstWord (view (decoded_value a τ (stated_by a τ r))) (view a) x y
+  pub accepted : decoder-said answer ≡ none
       → Answers (verdict_of a τ r) (decoded_value a τ (stated_by a τ r)) answer × (prefix-after ≡ prefix) × (loop-after ≡ loop)
 
 -- ---- the search: "A finished search, after 13 and 4, says so", and asks nothing more of a table; "a found table with another" acceptance than Inf of all "gets
@@ -171,12 +170,12 @@ to_find s table prefix loop p l =
     ∷ []
 
 -- A found table is judged by its conditions: "a refused one changes nothing". x and y are 12's word, and empty on every other answer.
-pub record JudgesFinding (s : Search) (table : Automaton) (prefix prefix-after loop loop-after : List ℕ) (r : state-reply.Reply) : Type 0 where
+pub record JudgesFinding (s : Search) (table : Automaton) (prefix prefix-after loop loop-after : List ℕ) (r : Result state-reply.Reply Refusal) : Type 0 where
   pub x : List ℕ
   pub y : List ℕ
-  pub judged : Judged (to_find s table (length prefix) (length loop) (length x) (length y)) (search-said r.answer)
-      ((r.search ≡ s) × Begins x prefix prefix-after × Begins y loop loop-after)
-  pub empty : (c : Code) → search-said r.answer ≡ some c → c.number ≢ 12 → (x ≡ []) × (y ≡ [])
+  pub judged : Judged (to_find s table (length prefix) (length loop) (length x) (length y)) (search-said r)
+      ((state.next s r ≡ s) × Begins x prefix prefix-after × Begins y loop loop-after)
+  pub empty : (c : Code) → search-said r ≡ some c → c.number ≢ 12 → (x ≡ []) × (y ≡ [])
   -- where 12 is said, it is the first word that shows that the found table and the reference differ
-  pub shown : (c : Code) → search-said r.answer ≡ some c → c.number ≡ 12 → FirstWord (view table) (view s.reference) x y
-  pub accepted : search-said r.answer ≡ none → (prefix-after ≡ prefix) × (loop-after ≡ loop)
+  pub shown : (c : Code) → search-said r ≡ some c → c.number ≡ 12 → FirstWord (view table) (view s.reference) x y
+  pub accepted : search-said r ≡ none → (prefix-after ≡ prefix) × (loop-after ≡ loop)

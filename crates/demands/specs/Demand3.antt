@@ -3,9 +3,10 @@
 --
 -- Of its clause c, field 1 shuts out a clause step whose first call alone is true and "ended" before clause C, field 2 a C with no list behind it, and fields
 -- 3 to 5 a list of one impossible clause and the same list for every reference.
-use Rattle.std.specs.Prelude.{◌≡◌, ◌↔◌, List, ℕ, ◌+◌, ◌*◌, ◌^◌, ◌≤◌, ◌<◌, length}
+use Rattle.std.specs.Prelude.{◌≡◌, ◌↔◌, Result, Ok, Err, List, ℕ, ◌+◌, ◌*◌, ◌^◌, ◌≤◌, ◌<◌, length}
 use Rattle.std.proofs.Math.Option.{none, some}
 use Rattle.automaton.specs.declared.Automaton.{Automaton}
+use Rattle.refusals.specs.declared.Refusal.{Refusal}
 use Rattle.refusals.specs.declared.Refusal.TheVariants.{Short}
 use Rattle.refusals.specs.Refused.{row}
 use Rattle.automaton.specs.Value.{letters}
@@ -16,7 +17,6 @@ use Rattle.clause_sizes.specs.declared.Listing.TheVariants.{First}
 use Rattle.clause_sizes.specs.declared.Target.{Target}
 use Rattle.clause_sizes.specs.Targets.{task, numbers, last, kept, file}
 use Rattle.clause_header.specs.declared.Totals.{Totals}
-use Rattle.clause_header.specs.declared.Totals.TheVariants.{Of}
 use Rattle.clause_header.specs.Header.{Headed}
 use Rattle.clause_step.specs.Step.{fresh_position}
 use Rattle.clause_step.specs.Calls.{Call, Calls, HandsOut}
@@ -27,8 +27,8 @@ use Rattle.solver_agreement.specs.Assignment.{States}
 use Rattle.solver_text.specs.Machine.{fresh}
 use Rattle.solver_text.specs.Calls.{Reads, Ends, joined}
 use Rattle.decode.specs.declared.Decoded.{Decoded}
-use Rattle.decode.specs.declared.Answer.TheVariants.{Refused}
-use Rattle.decode.specs.Answers.{Untouched, Decodes, found, without}
+use Rattle.decode.specs.declared.Decoded.TheVariants.{Table}
+use Rattle.decode.specs.Answers.{Untouched, Decodes}
 use Rattle.decode.specs.Found.{Found}
 use Rattle.decode.specs.Table.{decoded_value}
 
@@ -41,12 +41,12 @@ pub data Held (reference : Automaton) (τ : Target) (pieces : List (List ℕ)) :
   ended : {r : Reader} {e : Reply} → Reads reference τ fresh pieces r → Ends reference τ r e → Held reference τ pieces e.reader
 
 -- the decoder answers C, or 13 where a buffer is short, and leaves both buffers as they were
-pub record Delivers (C : Automaton) (prefix prefix-after loop loop-after : List ℕ) (answer : Decoded) : Type 0 where
-  pub table : prefix_room ≤ length prefix → loop_room ≤ length loop → Untouched prefix prefix-after loop loop-after answer (found C) none
+pub record Delivers (C : Automaton) (prefix prefix-after loop loop-after : List ℕ) (answer : Result Decoded Refusal) : Type 0 where
+  pub table : prefix_room ≤ length prefix → loop_room ≤ length loop → Untouched prefix prefix-after loop loop-after answer (Ok (Table C)) none
   pub short_prefix : length prefix < prefix_room
-      → Untouched prefix prefix-after loop loop-after answer (without (Refused (Short prefix_room (length prefix)))) (some (row 13 prefix_room (length prefix)))
+      → Untouched prefix prefix-after loop loop-after answer (Err (Short prefix_room (length prefix))) (some (row 13 prefix_room (length prefix)))
   pub short_loop : prefix_room ≤ length prefix → length loop < loop_room
-      → Untouched prefix prefix-after loop loop-after answer (without (Refused (Short loop_room (length loop)))) (some (row 13 loop_room (length loop)))
+      → Untouched prefix prefix-after loop loop-after answer (Err (Short loop_room (length loop))) (some (row 13 loop_room (length loop)))
 
 pub record Demand3 (reference : Automaton) (τ : Target) : Type 0 where
   -- 1. "A fresh clause step stands before clause 1. Each call gets the same reference, n and m, .. a buffer of any length and the state as the call before it,
@@ -56,7 +56,7 @@ pub record Demand3 (reference : Automaton) (τ : Target) : Type 0 where
   -- The same file as text, one line a call or as many as the buffer holds, in any order.
   pub lines : (cs : List TextCall) → TextCalls reference τ fresh_position cs → LinesOut reference τ cs
   -- 2. "The header is `p cnf V C`": the last variable and the number of clauses.
-  pub header : (r : Totals) → Headed reference τ r → r ≡ Of (last reference τ) (length (file reference τ))
+  pub header : (r : Result Totals Refusal) → Headed reference τ r → r ≡ Ok (record { variables = last reference τ; clauses = length (file reference τ) })
   -- "C counted beforehand: nL + (1 + nnrL) + n³rrL·2^m·2^s·2^m + the length of group 4"; in the second list "C is counted anew", with those u, v and l in place of all rrL "only if u, v
   -- and w share a component"
   pub count : let n = τ.states in
@@ -86,7 +86,7 @@ pub record Demand3 (reference : Automaton) (τ : Target) : Type 0 where
   -- and for every text that states it, and every list of pieces that make up the text, the decoder answers that automaton from what a fresh reader then holds.
   pub delivers : (ν : Assignment) → Satisfies ν (file reference τ) → (text : List ℕ) → States (last reference τ) (kept reference τ) text ν
       → (pieces : List (List ℕ)) → joined pieces ≡ text → (r : Reader) → Held reference τ pieces r
-      → (prefix prefix-after loop loop-after : List ℕ) (answer : Decoded) → Decodes prefix prefix-after loop loop-after answer reference τ r
+      → (prefix prefix-after loop loop-after : List ℕ) (answer : Result Decoded Refusal) → Decodes prefix prefix-after loop loop-after answer reference τ r
       → Delivers (decoded_value reference τ ν) prefix prefix-after loop loop-after answer
   -- 5. Every such automaton is decoded from an assignment that satisfies the file: the same value.
   pub complete : (C : Automaton) → Found reference τ C → (ν : Assignment) × Satisfies ν (file reference τ) × (decoded_value reference τ ν ≡ C)

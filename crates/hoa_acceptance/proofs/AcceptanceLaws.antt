@@ -2,18 +2,18 @@
 use mathlib.Core.Path.{◌≡◌, refl, sym, ap, ◌∙◌}
 use mathlib.Core.Bool.{◌&&◌, and-true}
 use mathlib.Core.List.{List}
-use Prim.Native.Nat.{ℕ, ◌-◌, ◌^◌, ◌≤◌, ◌<◌, min}
+use Prim.Native.Nat.{ℕ, ◌-◌, ◌^◌, ◌≤◌, min}
 use native.Mathlib.Omega.{arith}
-use borrow.Author.Tests.{le-leb, lt-leb}
+use borrow.Author.Tests.{le-leb}
 use lib.Bits.{bit_and, mask_lt}
 use Rattle.meaning.specs.BitSet.{has, set_of}
 use Rattle.meaning.specs.BitSetLaws.{has_and, has_same}
 use Rattle.meaning.proofs.FullSets.{has_below}
 use Rattle.meaning.specs.MarkSets.{set_of_lt, set_of_same, has_set_of}
 use Rattle.bits.specs.Powers.{power_is, power_le}
+use Rattle.std.specs.Prelude.{Result, Ok, Err}
 use Rattle.refusals.specs.declared.Refusal.{Refusal}
-use Rattle.refusals.specs.declared.Refusal.TheVariants.{Size}
-use Rattle.hoa_text.specs.Grammar.{gives, refuses, then}
+use Rattle.hoa_text.specs.Grammar.{gives, then}
 use Rattle.hoa_text.specs.Formulas.{Formula, holds, acceptance_formula}
 use Rattle.hoa_text.specs.Header.{acceptance_of, sets_read, sets_item, with_acceptance}
 use Rattle.hoa_text.specs.Tokens.{left}
@@ -21,7 +21,6 @@ use Rattle.hoa_tokens.specs.declared.Token.TheVariants.{Number}
 use Rattle.hoa_tokens.specs.Answers.{Reads}
 use Rattle.hoa_formulas.specs.Answers.{Satisfy, Read}
 use Rattle.hoa_acceptance.specs.declared.SetsRead.{SetsRead}
-use Rattle.hoa_acceptance.specs.declared.SetsRead.TheVariants.{Sets, Refused}
 use Rattle.hoa_acceptance.specs.Answers.{SetsAnswered, ReadsSets}
 use Rattle.hoa_acceptance.specs.Parts.{ReadsCondition}
 
@@ -39,10 +38,7 @@ mask_is m x p f h g e =
     e ∙ ap (λ n. set_of n (has x)) (power_is h refl) ∙ set_of_same (2 ^ m) (has x) (holds f) (λ y l. g y (omega (arith, power_le h)))
 
 module _ (s : List ℕ) (i m : ℕ) where
-  pub condition_refused : (r : Refusal) → acceptance_formula m (left s i) ≡ refuses r → ReadsCondition s i m (Refused r)
-  condition_refused r e h = ap (λ x. then x (sets_read h m)) e
-
-  pub condition_read : m ≤ 4 → (x p e : ℕ) → Read s i (acceptance_formula m (left s i)) x e → p ≡ set_of (2 ^ min m 4) (has x) → ReadsCondition s i m (Sets m p e)
+  pub condition_read : m ≤ 4 → (x p e : ℕ) → Read s i (acceptance_formula m (left s i)) x e → p ≡ set_of (2 ^ min m 4) (has x) → ReadsCondition s i m (Ok (record { sets = m; acceptance = p; end = e }))
   condition_read l x p e g q h = record {
     is = ap (λ y. then y (sets_read h m)) g.is ∙ ap (λ p. gives (with_acceptance h m p, left s e)) (sym (mask_is m x p g.formula l g.members q));
     from = g.from;
@@ -53,15 +49,12 @@ module _ (s : List ℕ) (i m : ℕ) where
 
 module _ (s : List ℕ) (i : ℕ) where
   module _ (o m e : ℕ) (h : Reads s i (Number o m e)) where
-    pub sets_over : 4 < m → ReadsSets s i (Refused (Size o))
-    sets_over l g = ap (sets_item g) h.is ∙ rw (lt-leb m 4 l)
-
-    pub sets_read_lem : m ≤ 4 → (r : SetsRead) → ReadsCondition s e m r → ReadsSets s i r
+    pub sets_read_lem : m ≤ 4 → (r : Result SetsRead Refusal) → ReadsCondition s e m r → ReadsSets s i r
     sets_read_lem l r x g = go r (x g)
       where
         counted : sets_item g (left s i) ≡ then (acceptance_formula m (left s e)) (sets_read g m)
         counted = ap (sets_item g) h.is ∙ rw (le-leb m 4 l)
 
-        go : (r : SetsRead) → SetsAnswered s e g (then (acceptance_formula m (left s e)) (sets_read g m)) r → SetsAnswered s i g (sets_item g (left s i)) r
-        go (Sets k p d) x = record { is = counted ∙ x.is; from = omega (arith, h.lies.from, h.lies.longer, x.from); to = x.to }
-        go (Refused z) x = counted ∙ x
+        go : (r : Result SetsRead Refusal) → SetsAnswered s e g (then (acceptance_formula m (left s e)) (sets_read g m)) r → SetsAnswered s i g (sets_item g (left s i)) r
+        go (Ok k) x = record { is = counted ∙ x.is; from = omega (arith, h.lies.from, h.lies.longer, x.from); to = x.to }
+        go (Err z) x = counted ∙ x

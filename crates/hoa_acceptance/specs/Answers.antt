@@ -1,11 +1,11 @@
 -- DEFINITIONS of what the answers of `acceptance` (`ReadsSets`) and of `behind_word` (`Past`) say.
-use Rattle.std.specs.Prelude.{◌≡◌, ◌≢◌, Bool, true, false, List, ℕ, ◌≤◌, ◌<◌, length}
+use Rattle.std.specs.Prelude.{◌≡◌, Bool, true, false, List, ℕ, ◌≤◌, ◌<◌, length, Option, Some, None, Result, Ok, Err}
+use Rattle.refusals.specs.declared.Refusal.{Refusal}
 use Rattle.hoa_text.specs.Basics.{option, same}
 use Rattle.hoa_text.specs.Tokens.{Token, left}
 use Rattle.hoa_text.specs.Grammar.{word_of, next, rest, gives, refuses, Parsed}
 use Rattle.hoa_text.specs.Header.{Items, with_acceptance, sets_item}
 use Rattle.hoa_acceptance.specs.declared.SetsRead.{SetsRead}
-use Rattle.hoa_acceptance.specs.declared.SetsRead.TheVariants.{Sets, Refused}
 
 -- ---- what stands behind `Acceptance:`
 
@@ -15,12 +15,12 @@ pub record SetsFrom (s : List ℕ) (i : ℕ) (h : Items) (x : Parsed Items) (m p
   pub from : i < e
   pub to : e ≤ length s
 
-abbrev pub SetsAnswered : List ℕ → ℕ → Items → Parsed Items → SetsRead → Type 0
-SetsAnswered s i h x (Sets m p e) = SetsFrom s i h x m p e
-SetsAnswered s i h x (Refused r) = x ≡ refuses r
+abbrev pub SetsAnswered : List ℕ → ℕ → Items → Parsed Items → Result SetsRead Refusal → Type 0
+SetsAnswered s i h x (Ok r) = SetsFrom s i h x r.sets r.acceptance r.end
+SetsAnswered s i h x (Err r) = x ≡ refuses r
 
 -- from i on, whatever the items before
-abbrev pub ReadsSets : List ℕ → ℕ → SetsRead → Type 0
+abbrev pub ReadsSets : List ℕ → ℕ → Result SetsRead Refusal → Type 0
 ReadsSets s i r = (h : Items) → SetsAnswered s i h (sets_item h (left s i)) r
 
 -- ---- a token that may stand next
@@ -29,10 +29,14 @@ ReadsSets s i r = (h : Items) → SetsAnswered s i h (sets_item h (left s i)) r
 abbrev pub is_word_of : List ℕ → Token → Bool
 is_word_of w t = option (word_of t) false (same w)
 
--- r is behind a token that is as p says, or it is i, and no such token stands first from i on
-pub record Past (p : Token → Bool) (s : List ℕ) (i r : ℕ) : Type 0 where
-  pub from : i ≤ r
-  pub absent : r ≡ i → next p (left s i) ≡ false
-  pub present : r ≢ i → next p (left s i) ≡ true
-  pub behind : r ≢ i → rest (left s i) ≡ left s r
-  pub to : r ≢ i → r ≤ length s
+-- a token that is as p says stands first from i on, and the text behind it begins at e
+pub record TokenTo (p : Token → Bool) (s : List ℕ) (i e : ℕ) : Type 0 where
+  pub present : next p (left s i) ≡ true
+  pub behind : rest (left s i) ≡ left s e
+  pub from : i < e
+  pub to : e ≤ length s
+
+-- r is the offset behind such a token, or none stands first from i on
+abbrev pub Past : (Token → Bool) → List ℕ → ℕ → Option ℕ → Type 0
+Past p s i (Some e) = TokenTo p s i e
+Past p s i None = next p (left s i) ≡ false

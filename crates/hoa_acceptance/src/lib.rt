@@ -8,42 +8,45 @@ ghost use Rattle.hoa_acceptance.specs.Parts.{ReadsCondition};
 
 use acceptance::all_true;
 use automaton::Automaton;
-use hoa_formulas::{FormulaRead, condition};
+use hoa_formulas::condition;
 use hoa_offsets::offset;
 use hoa_tokens::{Token, next_token};
 use hoa_words::spells;
 use refusals::Refusal;
 
-// The number of sets, the acceptance, bit x for the set of marks x, and the offset behind its formula; or why it is refused.
+// The number of sets, the acceptance, bit x for the set of marks x, and the offset behind its formula.
 #[derive(Clone, Copy)]
-pub enum SetsRead {
-    Sets(usize, u16, usize),
-    Refused(Refusal),
+pub struct SetsRead {
+    pub sets: usize,
+    pub acceptance: u16,
+    pub end: usize,
 }
 
-pub fn acceptance(text: &[u8], at: usize) -> SetsRead
+pub fn acceptance(text: &[u8], at: usize) -> Result<SetsRead, Refusal>
     ensures { ReadsSets text.now at result }
 {
     match next_token(text, at) {
         Token::Number(offset, sets, end) => {
             if sets > Automaton::SETS {
-                return SetsRead::Refused(Refusal::Size(offset));
+                return Err(Refusal::Size(offset));
             }
             counted(text, end, sets)
         }
-        _ => SetsRead::Refused(Refusal::Form(offset(text, at))),
+        _ => Err(Refusal::Form(offset(text, at))),
     }
 }
 
 // Behind the number of sets.
-fn counted(text: &[u8], at: usize, sets: usize) -> SetsRead
+fn counted(text: &[u8], at: usize, sets: usize) -> Result<SetsRead, Refusal>
     requires { sets ≤ 4 }
     ensures { ReadsCondition text.now at sets result }
 {
-    match condition(text, at, sets) {
-        FormulaRead::Refused(refusal) => SetsRead::Refused(refusal),
-        FormulaRead::Members(members, end) => SetsRead::Sets(sets, own(members, sets), end),
-    }
+    let read = condition(text, at, sets)?;
+    Ok(SetsRead {
+        sets,
+        acceptance: own(read.members, sets),
+        end: read.end,
+    })
 }
 
 // The members among the sets of marks that so many sets have.
@@ -53,16 +56,16 @@ fn own(members: u16, sets: usize) -> u16
     members & all_true(sets)
 }
 
-// The offset behind a word, or the offset given where it does not stand first.
-pub fn behind_word(text: &[u8], at: usize, word: &[u8]) -> usize
+// The offset behind a word, where that word stands first.
+pub fn behind_word(text: &[u8], at: usize, word: &[u8]) -> Option<usize>
     ensures { Past (is_word_of word.now) text.now at result }
 {
     match next_token(text, at) {
         Token::Word(start, end) => if spells(text, start, end, word) {
-            end
+            Some(end)
         } else {
-            at
+            None
         },
-        _ => at,
+        _ => None,
     }
 }

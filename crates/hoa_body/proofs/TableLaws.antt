@@ -3,6 +3,7 @@ use mathlib.Core.Path.{◌≡◌, refl, sym, ap, ap₂, ◌∙◌}
 use mathlib.Core.Logic.{◌≢◌}
 use mathlib.Core.Bool.{Bool, true, false, cond, ◌&&◌, ◌||◌, and-false}
 use mathlib.Core.List.{List}
+use Rattle.std.proofs.Common.{Some, None}
 use mathlib.Core.Option.{Option, none, some}
 use Prim.Native.Nat.{ℕ, ◌+◌, ◌*◌, ◌/◌, ◌%◌, ◌^◌, ◌≤◌, ◌<◌, zero-le}
 use native.Mathlib.Decide.{ℕ_discrete, dec_lt}
@@ -64,40 +65,46 @@ module _ (q members v : ℕ) where
         go (yes p) (yes m) = rw (lt-ltb (k % 16) n m, lt-ltb (k % 16) (n + 1) (omega arith))
         go (yes p) (no m) = let l : n + 1 ≤ k % 16 = omega arith in rw (le-ltb (k % 16) n (omega arith), le-ltb (k % 16) (n + 1) l)
 
-    pub filled_more : (entry cells : List ℕ) (w : ℕ) → q * 16 + n < length cells → w ≡ cond (has members n) v (get_or cells (q * 16 + n) 0)
-        → Filled q members n v entry cells → Filled q members (n + 1) v entry (set cells (q * 16 + n) w)
-    filled_more entry cells w room e f = record {
-      size = length-set cells (q * 16 + n) w ∙ f.size;
-      cells = λ k. go k (ℕ_discrete k (q * 16 + n));
-    }
-      where
-        was : (k : ℕ) → k ≡ q * 16 + n → get_or cells k 0 ≡ get_or entry k 0
-        was k p = f.cells k ∙ ap (λ b. cond b v (get_or entry k 0)) (before k p)
+    module _ (entry cells : List ℕ) (f : Filled q members n v entry cells) where
+      was : (k : ℕ) → k ≡ q * 16 + n → get_or cells k 0 ≡ get_or entry k 0
+      was k p = f.cells k ∙ ap (λ b. cond b v (get_or entry k 0)) (before k p)
 
-        go : (k : ℕ) → Dec (k ≡ q * 16 + n) → get_or (set cells (q * 16 + n) w) k 0 ≡ cond (among (n + 1) k) v (get_or entry k 0)
-        go k (no p) = get_or-set_other cells (q * 16 + n) k w 0 p ∙ f.cells k ∙ ap (λ b. cond b v (get_or entry k 0)) (sym (elsewhere k p))
-        go k (yes p) =
-            ap (λ j. get_or (set cells (q * 16 + n) w) j 0) p ∙ get_or-set_same cells (q * 16 + n) w 0 room ∙ e
-            ∙ ap (λ j. cond (has members n) v (get_or cells j 0)) (sym p) ∙ ap₂ (λ b x. cond b v x) (sym (here k p)) (was k p)
+      others : (k : ℕ) → k ≢ q * 16 + n → get_or cells k 0 ≡ cond (among (n + 1) k) v (get_or entry k 0)
+      others k p = f.cells k ∙ ap (λ b. cond b v (get_or entry k 0)) (sym (elsewhere k p))
+
+      pub filled_more : has members n ≡ true → q * 16 + n < length cells → Filled q members (n + 1) v entry (set cells (q * 16 + n) v)
+      filled_more e room = record { size = length-set cells (q * 16 + n) v ∙ f.size; cells = λ k. go k (ℕ_discrete k (q * 16 + n)) }
+        where
+          go : (k : ℕ) → Dec (k ≡ q * 16 + n) → get_or (set cells (q * 16 + n) v) k 0 ≡ cond (among (n + 1) k) v (get_or entry k 0)
+          go k (no p) = get_or-set_other cells (q * 16 + n) k v 0 p ∙ others k p
+          go k (yes p) =
+              ap (λ j. get_or (set cells (q * 16 + n) v) j 0) p ∙ get_or-set_same cells (q * 16 + n) v 0 room
+              ∙ sym (ap (λ b. cond b v (get_or entry k 0)) (here k p ∙ e))
+
+      pub filled_same : has members n ≡ false → Filled q members (n + 1) v entry cells
+      filled_same e = record { size = f.size; cells = λ k. go k (ℕ_discrete k (q * 16 + n)) }
+        where
+          go : (k : ℕ) → Dec (k ≡ q * 16 + n) → get_or cells k 0 ≡ cond (among (n + 1) k) v (get_or entry k 0)
+          go k (no p) = others k p
+          go k (yes p) = was k p ∙ sym (ap (λ b. cond b v (get_or entry k 0)) (here k p ∙ e))
 
 -- ---- states
 
-pub holds_none : (a : Automaton) (c : Current) → current_of c ≡ begun 16 0
-    → HoldsNone a (record { named = 0; given = replicate 16 0; current = c; destinations = a.destinations; marks = a.marks })
-holds_none a c e h o = record {
+pub holds_none : (a : Automaton) → HoldsNone a (record { named = 0; given = replicate 16 0; current = None; destinations = a.destinations; marks = a.marks })
+holds_none a h o = record {
   named = λ q g. has_zero q;
   given = λ q l g k. ap (λ s. has s l) (get_or-replicate 16 q 0 0 g) ∙ has_zero l;
-  current_is = ap (λ x. cond (ltb x.state 16) (some x) none) (sym e);
+  current_is = refl;
   destinations = ap (λ a. a.destinations) o;
   marks = ap (λ a. a.marks) o;
 }
 
-pub holds_state : (u : Table) (p m s : ℕ) (c : Current) → p < 16 → s ≡ 2 ^ p → current_of c ≡ begun p m
-    → HoldsState u p m (record { named = bit_or s u.named; given = u.given; current = c; destinations = u.destinations; marks = u.marks })
-holds_state u p m s c l e k h t g = record {
+pub holds_state : (u : Table) (p m s : ℕ) (c : Current) → s ≡ 2 ^ p → current_of c ≡ begun p m
+    → HoldsState u p m (record { named = bit_or s u.named; given = u.given; current = Some c; destinations = u.destinations; marks = u.marks })
+holds_state u p m s c e k h t g = record {
   named = λ q x. has_or s u.named q ∙ ap₂ (λ a b. a || b) (ap (λ n. has n q) e ∙ has_single p q) (g.named q x);
   given = g.given;
-  current_is = sym (ap (λ b. cond b (some (begun p m)) none) (lt-ltb p 16 l)) ∙ ap (λ x. cond (ltb x.state 16) (some x) none) (sym k);
+  current_is = ap some (sym k);
   destinations = g.destinations;
   marks = g.marks;
 }
@@ -108,9 +115,11 @@ option_cond : {A : Type 0} (f : A → ℕ) (b : Bool) (a : A) (x : Option A) →
 option_cond f true a x = refl
 option_cond f false a x = refl
 
-some_cond : {A : Type 0} (b : Bool) (a : A) (x : Option A) → is_some (cond b (some a) x) ≡ (b || is_some x)
-some_cond true a x = refl
-some_cond false a x = refl
+some_cond : {A : Type 0} (b : Bool) (a : A) (x : Option A) → is_some (cond b (some a) x) ≡ (is_some x || b)
+some_cond true a none = refl
+some_cond true a (some x) = refl
+some_cond false a none = refl
+some_cond false a (some x) = refl
 
 module _ (h : Header) (t : Hoa.Table) (f : ℕ → Bool) (c : Current) (members d m n : ℕ) (hq : c.state < 16) (hn : n ≤ 16) (count : letters h ≡ n)
     (sat : Members members f) where
@@ -142,33 +151,33 @@ module _ (h : Header) (t : Hoa.Table) (f : ℕ → Bool) (c : Current) (members 
       ∙ sym (each_at 0 256 (λ i. due (i / 16) (i % 16)) k (omega arith))
 
   given_after : (given : List ℕ) → length given ≡ 16 → ((p l : ℕ) → p < 16 → l < letters h → has (get_or given p 0) l ≡ is_some (t.edge p l))
-      → (p l : ℕ) → p < 16 → l < letters h → has (get_or (set given q (bit_or members (get_or given q 0))) p 0) l ≡ is_some (after.edge p l)
+      → (p l : ℕ) → p < 16 → l < letters h → has (get_or (set given q (bit_or (get_or given q 0) members)) p 0) l ≡ is_some (after.edge p l)
   given_after given size was p l hp hl = go (ℕ_discrete p q)
     where
-      go : Dec (p ≡ q) → has (get_or (set given q (bit_or members (get_or given q 0))) p 0) l ≡ is_some (after.edge p l)
+      go : Dec (p ≡ q) → has (get_or (set given q (bit_or (get_or given q 0) members)) p 0) l ≡ is_some (after.edge p l)
       go (yes e) =
-          ap (λ j. has (get_or (set given q (bit_or members (get_or given q 0))) j 0) l) e
-          ∙ ap (λ s. has s l) (get_or-set_same given q (bit_or members (get_or given q 0)) 0 (omega arith))
-          ∙ has_or members (get_or given q 0) l
-          ∙ ap₂ (λ a b. a || b) (sat l (omega arith)) (ap (λ j. has (get_or given j 0) l) (sym e) ∙ was p l hp hl)
+          ap (λ j. has (get_or (set given q (bit_or (get_or given q 0) members)) j 0) l) e
+          ∙ ap (λ s. has s l) (get_or-set_same given q (bit_or (get_or given q 0) members) 0 (omega arith))
+          ∙ has_or (get_or given q 0) members l
+          ∙ ap₂ (λ a b. a || b) (ap (λ j. has (get_or given j 0) l) (sym e) ∙ was p l hp hl) (sat l (omega arith))
           ∙ sym (some_cond (f l) new (t.edge p l))
           ∙ sym (rw (eq-eqb p q e, lt-ltb l (letters h) hl))
       go (no e) =
-          ap (λ s. has s l) (get_or-set_other given q p (bit_or members (get_or given q 0)) 0 e) ∙ was p l hp hl ∙ sym (rw (ne_eqb p q e))
+          ap (λ s. has s l) (get_or-set_other given q p (bit_or (get_or given q 0) members) 0 e) ∙ was p l hp hl ∙ sym (rw (ne_eqb p q e))
 
 pub holds_edge : (u : Table) (c : Current) (members n d m : ℕ) (destinations marks : List ℕ) → c.state < 16 → n ≤ 16 → length u.given ≡ 16
     → Filled c.state members n d u.destinations destinations → Filled c.state members n (bit_or c.shared m) u.marks marks
     → HoldsEdge u c members n d m (record {
       named = u.named;
-      given = set u.given c.state (bit_or members (get_or u.given c.state 0));
-      current = c;
+      given = set u.given c.state (bit_or (get_or u.given c.state 0) members);
+      current = Some c;
       destinations = destinations;
       marks = marks;
     })
 holds_edge u c members n d m destinations marks hq hn size to with_marks_lem h t f count sat g = record {
   named = g.named;
   given = given_after h t f c members d m n hq hn count sat u.given size g.given;
-  current_is = sym (ap (λ b. cond b (some (current_of c)) none) (lt-ltb c.state 16 hq));
+  current_is = refl;
   destinations = cells_after h t f c members d m n hq hn count sat (λ e. e.destination) d refl u.destinations destinations g.destinations to;
   marks = cells_after h t f c members d m n hq hn count sat (λ e. e.marks) (bit_or c.shared m) refl u.marks marks g.marks with_marks_lem;
 }

@@ -1,9 +1,10 @@
 -- DEFINITIONS of what the answer of `body` says (`BodyAnswer`): the table that the body gives, as the code keeps it (`Holds`), or the refusal.
-use Rattle.std.specs.Prelude.{◌≡◌, cond, List, ℕ, ◌≤◌, ◌<◌, ltb, get_or}
+use Rattle.std.specs.Prelude.{◌≡◌, Option as Given, Some, None, Result, Ok, Err, List, ℕ, ◌≤◌, ◌<◌, get_or}
 use Rattle.std.proofs.Math.Option.{Option, none, some}
 use Rattle.meaning.specs.BitSet.{has}
 use Rattle.automaton.specs.declared.Automaton.{Automaton}
 use Rattle.automaton.specs.Value.{rows}
+use Rattle.refusals.specs.declared.Refusal.{Refusal}
 use Rattle.refusals.specs.declared.Refusal.TheVariants.{Outside}
 use Rattle.hoa_text.specs.Basics.{option, is_some}
 use Rattle.hoa_text.specs.Tokens.{left}
@@ -15,8 +16,6 @@ use Rattle.hoa_text.specs.Reading.{made}
 use Rattle.hoa_body.specs.declared.Current.{Current}
 use Rattle.hoa_body.specs.declared.Table.{Table}
 use Rattle.hoa_body.specs.declared.BodyRead.{BodyRead}
-use Rattle.hoa_body.specs.declared.Answer.{Answer}
-use Rattle.hoa_body.specs.declared.Answer.TheVariants.{End, Refused}
 
 -- ---- what the header hands over
 
@@ -37,8 +36,14 @@ abbrev pub current_of : Current → Hoa.Current
 current_of c = record { state = c.state; shared = c.shared; labelled = c.labelled; listed = c.listed }
 
 -- none before the first
-abbrev pub current : Current → Option Hoa.Current
-current c = cond (ltb c.state 16) (some (current_of c)) none
+abbrev pub current : Given Current → Option Hoa.Current
+current None = none
+current (Some c) = some (current_of c)
+
+-- it is one of the 16
+abbrev pub CurrentFits : Given Current → Type 0
+CurrentFits None = Unit {0}
+CurrentFits (Some c) = c.state < 16
 
 -- the states that were named, the letters that have an edge, the current state, and the entries that the value will have
 pub record Holds (h : Header) (t : Hoa.Table) (u : Table) : Type 0 where
@@ -56,14 +61,14 @@ pub record Ends (h : Header) (s : List ℕ) (x : Parsed Hoa.Table) (u : Table) (
   pub is : x ≡ gives (table, left s e)
   pub holds : Holds h table u
 
-abbrev pub Answered : Header → List ℕ → Parsed Hoa.Table → Table → Answer → Type 0
-Answered h s x u (End e) = Ends h s x u e
-Answered h s x u (Refused r) = x ≡ refuses r
+abbrev pub Answered : Header → List ℕ → Parsed Hoa.Table → Result BodyRead Refusal → Type 0
+Answered h s x (Ok r) = Ends h s x r.table r.end
+Answered h s x (Err z) = x ≡ refuses z
 
 -- the body at i, for every header that hands a over
-abbrev pub BodyOf : List ℕ → ℕ → Automaton → BodyRead → Type 0
-BodyOf s i a r = (h : Header) → Opens a h → Answered h s (body h (left s i)) r.table r.answer
+abbrev pub BodyOf : List ℕ → ℕ → Automaton → Result BodyRead Refusal → Type 0
+BodyOf s i a r = (h : Header) → Opens a h → Answered h s (body h (left s i)) r
 
-pub record BodyAnswer (s : List ℕ) (i : ℕ) (a : Automaton) (r : BodyRead) : Type 0 where
+pub record BodyAnswer (s : List ℕ) (i : ℕ) (a : Automaton) (r : Result BodyRead Refusal) : Type 0 where
   pub is : Bounded a → BodyOf s i a r
-  pub outside : ¬ (Bounded a) → r.answer ≡ Refused Outside
+  pub outside : ¬ (Bounded a) → r ≡ Err Outside

@@ -1,7 +1,8 @@
 -- What the answer of a function that reads a state, or a part of it, says.
-use Rattle.std.specs.Prelude.{◌≡◌, List, ℕ, ◌≤◌, ◌<◌, length}
+use Rattle.std.specs.Prelude.{◌≡◌, Result, List, ℕ, ◌≤◌, ◌<◌, length}
 use Rattle.meaning.specs.BitSet.{has}
 use Rattle.automaton.specs.declared.Automaton.{Automaton}
+use Rattle.refusals.specs.declared.Refusal.{Refusal}
 use Rattle.hoa_text.specs.Tokens.{left}
 use Rattle.hoa_text.specs.Grammar.{onward}
 use Rattle.hoa_text.specs.Header.{Header}
@@ -11,12 +12,12 @@ use Rattle.hoa_body.specs.Answers.{Opens}
 use Rattle.hoa_body.specs.Parts.{PartLies, PartMeans}
 
 -- behind `State:`, with the header's value a
-pub record StateAnswer (s : List ℕ) (i : ℕ) (a : Automaton) (named : ℕ) (r : Part) : Type 0 where
+pub record StateAnswer (s : List ℕ) (i : ℕ) (a : Automaton) (named : ℕ) (r : Result Part Refusal) : Type 0 where
   pub lies : PartLies s i r
   pub means : (h : Header) (t : Table) → Opens a h → ((p : ℕ) → p < 16 → has named p ≡ t.named p) → PartMeans h t s (onward (state_item h t (left s i))) r
 
 -- behind the number p, with m sets
-pub record StateMarkedAnswer (s : List ℕ) (i m p : ℕ) (r : Part) : Type 0 where
+pub record StateMarkedAnswer (s : List ℕ) (i m p : ℕ) (r : Result Part Refusal) : Type 0 where
   pub lies : (b : ℕ) → b < i → PartLies s b r
   pub means : (h : Header) (t : Table) → h.sets ≡ m → PartMeans h t s (onward (state_marked h t p (left s i))) r
 

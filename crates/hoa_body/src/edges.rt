@@ -11,58 +11,72 @@ use bits::sets::{lowest, single};
 use hoa_edges::{EdgeRead, edge, unlabelled};
 use refusals::Refusal;
 
-// Whether an edge with a label may stand here: a state has begun, and no edge of it was listed.
+// Whether an edge with a label may stand here: no edge of the state was listed.
 pub fn takes_label(current: Current) -> bool
     ensures { TakesLabel current result }
 {
-    (current.state < Automaton::STATES) & (current.listed == 0)
+    current.listed == 0
 }
 
 // Whether an edge without a label may stand here: no edge of the state had one, and there is a letter left.
 pub fn takes_listed(current: Current, letters: usize) -> bool
     ensures { TakesListed current letters result }
 {
-    (current.state < Automaton::STATES) & !current.labelled & (current.listed < letters)
+    !current.labelled && current.listed < letters
 }
 
 // Behind the `[` of an edge.
-pub fn labelled_edge(text: &[u8], at: usize, opened: Automaton, table: Table) -> Part
-    requires { Bounded opened × (table.current.state < 16) }
-    ensures { EdgeOf labelled text.now at opened table result }
+pub fn labelled_edge(
+    text: &[u8],
+    at: usize,
+    opened: Automaton,
+    table: Table,
+    current: Current,
+) -> Result<Part, Refusal>
+    requires { Bounded opened × (current.state < 16) }
+    ensures { EdgeOf labelled text.now at opened table current result }
 {
-    let read = edge(text, at, opened.states, opened.propositions, opened.sets);
-    let mut counted = table.current;
-    counted.labelled = true;
+    let read = edge(text, at, opened.states, opened.propositions, opened.sets)?;
+    let counted = Current {
+        labelled: true,
+        ..current
+    };
     first_edge(read, counted, opened, table)
 }
 
 // An edge without a label, for the next letter.
-pub fn listed_edge(text: &[u8], at: usize, opened: Automaton, table: Table) -> Part
-    requires { Bounded opened × (table.current.state < 16) × (table.current.listed < 16) }
-    ensures { EdgeOf listed text.now at opened table result }
+pub fn listed_edge(
+    text: &[u8],
+    at: usize,
+    opened: Automaton,
+    table: Table,
+    current: Current,
+) -> Result<Part, Refusal>
+    requires { Bounded opened × (current.state < 16) × (current.listed < 16) }
+    ensures { EdgeOf listed text.now at opened table current result }
 {
-    let letter = table.current.listed;
-    let read = unlabelled(text, at, opened.states, opened.sets, single(letter));
-    let mut counted = table.current;
-    counted.listed = letter + 1;
+    let read = unlabelled(text, at, opened.states, opened.sets, single(current.listed))?;
+    let counted = Current {
+        listed: current.listed + 1,
+        ..current
+    };
     first_edge(read, counted, opened, table)
 }
 
 // The edge that was read, unless it is the second for a letter, which is judged once the marks are read.
-fn first_edge(read: EdgeRead, counted: Current, opened: Automaton, table: Table) -> Part
+fn first_edge(
+    edge: EdgeRead,
+    counted: Current,
+    opened: Automaton,
+    table: Table,
+) -> Result<Part, Refusal>
     requires { Bounded opened × (counted.state < 16) }
-    ensures { FirstAnswer read counted opened table result }
+    ensures { FirstAnswer edge counted opened table result }
 {
-    match read {
-        EdgeRead::Refused(refusal) => Part::Refused(refusal),
-        EdgeRead::To(set, destination, marks, next) => {
-            let state = counted.state;
-            let letters = power_of_two(opened.propositions);
-            let second = lowest(set & table.given[state], letters);
-            if second < letters {
-                return Part::Refused(Refusal::SecondEdge(state, second));
-            }
-            Part::Edge(counted, set, destination, marks, next)
-        }
+    let letters = power_of_two(opened.propositions);
+    let second = lowest(edge.letters & table.given[counted.state], letters);
+    if second < letters {
+        return Err(Refusal::SecondEdge(counted.state, second));
     }
+    Ok(Part::Edge { counted, edge })
 }

@@ -17,7 +17,6 @@ use tables::{no_states, with_edge, with_state};
 // A state while its edges are read.
 #[derive(Clone, Copy)]
 pub struct Current {
-    // `Automaton::STATES` before the first.
     pub state: usize,
     // The marks that it shares with its edges.
     pub shared: u8,
@@ -35,42 +34,32 @@ pub struct Table {
     // For each state the letters that have an edge: bit l for the letter l.
     pub given: [u16; Automaton::STATES],
     // The state whose edges may stand here.
-    pub current: Current,
+    pub current: Option<Current>,
     pub destinations: [u8; Automaton::CELLS],
     pub marks: [u8; Automaton::CELLS],
 }
 
-// The offset behind `--END--`, or why the body is refused.
-#[derive(Clone, Copy)]
-pub enum Answer {
-    End(usize),
-    Refused(Refusal),
-}
-
+// The table that the body gives, and the offset directly behind `--END--`.
 #[derive(Clone, Copy)]
 pub struct BodyRead {
-    pub answer: Answer,
     pub table: Table,
+    pub end: usize,
 }
 
 // The text from behind `--BODY--` on, once the header has given its counts; counts that no header gives are refused.
-pub fn body(text: &[u8], at: usize, opened: Automaton) -> BodyRead
+pub fn body(text: &[u8], at: usize, opened: Automaton) -> Result<BodyRead, Refusal>
     ensures { BodyAnswer text.now at opened result }
 {
-    if (opened.states <= Automaton::STATES)
-        & (opened.propositions <= Automaton::PROPOSITIONS)
-        & (opened.sets <= Automaton::SETS)
+    if opened.states > Automaton::STATES
+        || opened.propositions > Automaton::PROPOSITIONS
+        || opened.sets > Automaton::SETS
     {
-        return parts_from(text, at, opened);
+        return Err(Refusal::Outside);
     }
-    let table = no_states(opened);
-    BodyRead {
-        answer: Answer::Refused(Refusal::Outside),
-        table,
-    }
+    parts_from(text, at, opened)
 }
 
-fn parts_from(text: &[u8], at: usize, opened: Automaton) -> BodyRead
+fn parts_from(text: &[u8], at: usize, opened: Automaton) -> Result<BodyRead, Refusal>
     requires { Bounded opened }
     ensures { BodyOf text.now at opened result }
 {
@@ -78,27 +67,16 @@ fn parts_from(text: &[u8], at: usize, opened: Automaton) -> BodyRead
     let mut table = no_states(opened);
     let mut i = at;
     loop {
-        match next_part(text, i, opened, table) {
-            Part::State(state, marks, next) => {
+        match next_part(text, i, opened, table)? {
+            Part::State { state, marks, end } => {
                 table = with_state(table, state, marks);
-                i = next;
+                i = end;
             }
-            Part::Edge(counted, set, destination, marks, next) => {
-                table = with_edge(table, counted, set, letters, destination, marks);
-                i = next;
+            Part::Edge { counted, edge } => {
+                table = with_edge(table, counted, edge, letters);
+                i = edge.end;
             }
-            Part::End(end) => {
-                return BodyRead {
-                    answer: Answer::End(end),
-                    table,
-                };
-            }
-            Part::Refused(refusal) => {
-                return BodyRead {
-                    answer: Answer::Refused(refusal),
-                    table,
-                };
-            }
+            Part::End { end } => return Ok(BodyRead { table, end }),
         }
     }
 }

@@ -1,23 +1,26 @@
 // The table of the body so far.
-ghost use Rattle.std.specs.Prelude.{◌≡◌, cond, ◌≤◌, ◌<◌, length};
+ghost use Rattle.std.specs.Prelude.{◌≡◌, ◌≤◌, ◌<◌, length};
 ghost use Rattle.hoa_text.specs.Body.{begun};
-ghost use Rattle.hoa_body.specs.Answers.{current_of};
+ghost use Rattle.hoa_body.specs.Answers.{current_of, CurrentFits};
 ghost use Rattle.hoa_body.specs.Tables.{HoldsNone, HoldsState, HoldsEdge, Filled};
 
 use crate::{Current, Table};
 use automaton::Automaton;
 use bits::sets::{has, single};
+use hoa_edges::EdgeRead;
 
 pub fn no_states(opened: Automaton) -> Table
-    ensures { HoldsNone opened result }
+    ensures { HoldsNone opened result × CurrentFits result.current }
 {
-    let destinations = opened.destinations;
-    let marks = opened.marks;
-    let current = begun(Automaton::STATES, 0);
+    let Automaton {
+        destinations,
+        marks,
+        ..
+    } = opened;
     Table {
         named: 0,
         given: [0u16; Automaton::STATES],
-        current,
+        current: None,
         destinations,
         marks,
     }
@@ -25,12 +28,13 @@ pub fn no_states(opened: Automaton) -> Table
 
 pub fn with_state(table: Table, state: usize, marks: u8) -> Table
     requires { state < 16 }
-    ensures { HoldsState table state marks result }
+    ensures { HoldsState table state marks result × CurrentFits result.current }
 {
-    let mut next = table;
-    next.named = single(state) | table.named;
-    next.current = begun(state, marks);
-    next
+    Table {
+        named: single(state) | table.named,
+        current: Some(begun(state, marks)),
+        ..table
+    }
 }
 
 // A state of whose edges none was read.
@@ -45,30 +49,26 @@ fn begun(state: usize, marks: u8) -> Current
     }
 }
 
-// An edge of the counted state, for the letters of the set among `letters`; the state's marks are joined with its own.
-pub fn with_edge(
-    table: Table,
-    counted: Current,
-    set: u16,
-    letters: usize,
-    destination: usize,
-    marks: u8,
-) -> Table
-    requires { (counted.state < 16) × (letters ≤ 16) × (destination < 16) }
-    ensures { HoldsEdge table counted set letters destination marks result }
+// An edge of the counted state, for those of its letters that are among `letters`; the state's marks are joined with its own.
+pub fn with_edge(table: Table, counted: Current, edge: EdgeRead, letters: usize) -> Table
+    requires { (counted.state < 16) × (letters ≤ 16) × (edge.destination < 16) }
+    ensures { HoldsEdge table counted edge.letters letters edge.destination edge.marks result × CurrentFits result.current }
 {
-    let state = counted.state;
-    let mut next = table;
-    next.current = counted;
-    next.given[state] = set | next.given[state];
+    let mut next = Table {
+        current: Some(counted),
+        ..table
+    };
+    next.given[counted.state] |= edge.letters;
+    let destination = edge.destination as u8;
     fill(
         &mut next.destinations,
-        state,
-        set,
+        counted.state,
+        edge.letters,
         letters,
-        destination as u8,
+        destination,
     );
-    fill(&mut next.marks, state, set, letters, counted.shared | marks);
+    let marks = counted.shared | edge.marks;
+    fill(&mut next.marks, counted.state, edge.letters, letters, marks);
     next
 }
 
@@ -77,16 +77,9 @@ fn fill(cells: &mut [u8; Automaton::CELLS], state: usize, set: u16, letters: usi
     requires { (state < 16) × (letters ≤ 16) × (length cells.old ≡ 256) }
     ensures { Filled state set letters value cells.old cells.new }
 {
-    let mut letter: usize = 0;
-    while letter < letters {
-        let cell = state * Automaton::LETTERS + letter;
-        cells[cell] = either(has(set, letter), value, cells[cell]);
-        letter += 1;
+    for letter in 0..letters {
+        if has(set, letter) {
+            cells[state * Automaton::LETTERS + letter] = value;
+        }
     }
-}
-
-fn either(first: bool, one: u8, other: u8) -> u8
-    ensures { result ≡ cond first one other }
-{
-    if first { one } else { other }
 }

@@ -10,27 +10,24 @@ use native.Mathlib.Omega.{arith}
 use borrow.Author.Tests.{ne_eqb}
 use lib.ListN.{length, get_or}
 use lib.Seq.{slice}
+use Rattle.std.specs.Prelude.{Result, Ok, Err}
+use Rattle.refusals.specs.declared.Refusal.{Refusal}
 use Rattle.refusals.specs.declared.Refusal.TheVariants.{Form}
 use Rattle.automaton.specs.Bytes.{bytes}
 use Rattle.hoa_text.specs.Basics.{is_some, same}
 use Rattle.hoa_text.specs.Tokens.{blank, digit, Stream, stands, over, broken, left}
 use Rattle.hoa_text.specs.Tokens as Hoa
 use Rattle.hoa_text.specs.Grammar.{number_of, is_word, next, at, peek, refuses, Parsed, then}
-use Rattle.hoa_text.specs.Formulas.{Formula, Atoms, propositions, sets, proposition, top, bottom, number_given, parsed_set, named, constant, atom, closed}
+use Rattle.hoa_text.specs.Formulas.{Formula, Atoms, propositions, sets, proposition, top, bottom, number_given, parsed_set, named, constant, atom, negated, closed}
 use Rattle.hoa_text.specs.Formulas as Formulas
 use Rattle.hoa_text.specs.RunOffsets.{digit_blank}
 use Rattle.hoa_text.specs.FirstByte.{excluded}
-use Rattle.hoa_tokens.specs.declared.Token.TheVariants.{Word}
-use Rattle.hoa_tokens.specs.Answers.{Reads}
 use Rattle.hoa_tokens.proofs.Due.{number_due}
-use Rattle.hoa_offsets.specs.Behind.{Behind}
-use Rattle.hoa_offsets.specs.BehindLaws.{absent, present, behind_it}
 use Rattle.hoa_formulas.specs.declared.Atoms as Declared
 use Rattle.hoa_formulas.specs.declared.Atoms.TheVariants.{Propositions, Sets}
 use Rattle.hoa_formulas.specs.declared.FormulaRead.{FormulaRead}
-use Rattle.hoa_formulas.specs.declared.FormulaRead.TheVariants.{Members, Refused}
 use Rattle.hoa_formulas.specs.Answers.{Answers}
-use Rattle.hoa_formulas.specs.Parts.{atoms_of, Denies, Closes, ConstantWord, SetWord}
+use Rattle.hoa_formulas.specs.Parts.{atoms_of, Denies, ConstantWord, SetWord}
 use Rattle.hoa_formulas.proofs.MemberSets.{all_members, no_members}
 use Rattle.hoa_formulas.proofs.Laws.{answers_from}
 
@@ -110,7 +107,7 @@ module _ (s : List ℕ) (i : ℕ) (d : digit (get_or s i 0) ≡ true) where
   digit_atom a = no_constant (left s i) (digit_no_word s i d "t") (digit_no_word s i d "f") (named a (left s i))
 
   module _ (a : Declared.Atoms) (n : ℕ) where
-    pub digit_proposition : a ≡ Propositions n → (r : FormulaRead) → Answers s i (Formulas.declared n (left s i)) r → Answers s i (atom (atoms_of a) (left s i)) r
+    pub digit_proposition : a ≡ Propositions n → (r : Result FormulaRead Refusal) → Answers s i (Formulas.declared n (left s i)) r → Answers s i (atom (atoms_of a) (left s i)) r
     digit_proposition e r h = answers_from s i i (omega arith) (ap (λ a. atom (atoms_of a) (left s i)) e ∙ digit_atom (propositions n)) r h
 
     pub digit_in_condition : a ≡ Sets n → (o : ℕ) → o ≡ at (left s i) → atom (atoms_of a) (left s i) ≡ refuses (Form o)
@@ -158,49 +155,35 @@ module _ (s : List ℕ) (i : ℕ) (h : (get_or s i 0 ≡ 73) ⊎ (get_or s i 0 �
         ap (λ a. atom (atoms_of a) (left s i)) e ∙ name_atom (propositions n) ∙ no_proposition (left s i) (no_digit_no_number s i no_blank no_digit) n
         ∙ ap (λ o. refuses (Form o)) (sym x)
 
-    pub name_set : a ≡ Sets n → (r : FormulaRead) → Answers s i (named (sets n) (left s i)) r → Answers s i (atom (atoms_of a) (left s i)) r
+    pub name_set : a ≡ Sets n → (r : Result FormulaRead Refusal) → Answers s i (named (sets n) (left s i)) r → Answers s i (atom (atoms_of a) (left s i)) r
     name_set e r x = answers_from s i i (omega arith) (ap (λ a. atom (atoms_of a) (left s i)) e ∙ name_atom (sets n)) r x
-
--- ---- words
-
-pub word_lies : (s : List ℕ) (i o e : ℕ) → Reads s i (Word o e) → (o < e) × (e ≤ length s)
-word_lies s i o e h = (h.lies.longer, h.lies.to)
-
--- what p reads of the word
-pub word_read : (p : Stream → Parsed Formula) (s : List ℕ) (i o e : ℕ) (r : FormulaRead) → Reads s i (Word o e)
-    → Answers s o (p (stands o (Hoa.word (slice o e s)) (left s e))) r → Answers s i (p (left s i)) r
-word_read p s i o e r h g = answers_from s i o h.lies.from (ap p h.is) r g
 
 -- ---- `t` and `f`
 
 module _ (s : List ℕ) (i e : ℕ) (l : i < e) (m : e ≤ length s) where
-  pub is_true : same (116 ∷ []) (slice i e s) ≡ true → ConstantWord s i e (Members 65535 e)
+  pub is_true : same (116 ∷ []) (slice i e s) ≡ true → ConstantWord s i e (Ok (record { members = 65535; end = e }))
   is_true h = record { formula = top; is = rw h; members = all_members; from = l; to = m }
 
   module _ (no : same (116 ∷ []) (slice i e s) ≡ false) where
-    pub is_false : same (102 ∷ []) (slice i e s) ≡ true → ConstantWord s i e (Members 0 e)
+    pub is_false : same (102 ∷ []) (slice i e s) ≡ true → ConstantWord s i e (Ok (record { members = 0; end = e }))
     is_false h = record { formula = bottom; is = rw (no, h); members = no_members; from = l; to = m }
 
-    pub is_neither : same (102 ∷ []) (slice i e s) ≡ false → ConstantWord s i e (Refused (Form i))
+    pub is_neither : same (102 ∷ []) (slice i e s) ≡ false → ConstantWord s i e (Err (Form i))
     is_neither h = rw (no, h)
 
 -- ---- Inf and Fin
 
 module _ (n : ℕ) (s : List ℕ) (i e : ℕ) (l : i < e) where
-  pub is_inf : same (73 ∷ 110 ∷ 102 ∷ []) (slice i e s) ≡ true → (r : FormulaRead) → Answers s e (parsed_set n (left s e)) r → SetWord s i e n r
+  pub is_inf : same (73 ∷ 110 ∷ 102 ∷ []) (slice i e s) ≡ true → (r : Result FormulaRead Refusal) → Answers s e (parsed_set n (left s e)) r → SetWord s i e n r
   is_inf h r g = answers_from s i e (omega arith) (rw h) r g
 
   module _ (no : same (73 ∷ 110 ∷ 102 ∷ []) (slice i e s) ≡ false) where
-    pub is_fin : same (70 ∷ 105 ∷ 110 ∷ []) (slice i e s) ≡ true → (x r : FormulaRead) → Answers s e (parsed_set n (left s e)) x → Denies x r → SetWord s i e n r
-    is_fin h x r g k = answers_from s i e (omega arith) (rw (no, h)) r (k s e _ g)
+    module _ (h : same (70 ∷ 105 ∷ 110 ∷ []) (slice i e s) ≡ true) where
+      pub is_fin : (x r : FormulaRead) → Answers s e (parsed_set n (left s e)) (Ok x) → Denies x r → SetWord s i e n (Ok r)
+      is_fin x r g k = answers_from s i e (omega arith) (rw (no, h)) (Ok r) (k s e _ g)
 
-    pub is_no_set : same (70 ∷ 105 ∷ 110 ∷ []) (slice i e s) ≡ false → SetWord s i e n (Refused (Form i))
+      pub fin_refused : (r : Refusal) → Answers s e (parsed_set n (left s e)) (Err r) → SetWord s i e n (Err r)
+      fin_refused r g = rw (no, h) (ap (λ y. then y negated) g)
+
+    pub is_no_set : same (70 ∷ 105 ∷ 110 ∷ []) (slice i e s) ≡ false → SetWord s i e n (Err (Form i))
     is_no_set h = rw (no, h)
-
-module _ (m : ℕ) (s : List ℕ) (i n : ℕ) (h : Behind s i 40 n) where
-  pub brackets_absent : n ≡ i → (o : ℕ) → o ≡ at (left s i) → parsed_set m (left s i) ≡ refuses (Form o)
-  brackets_absent q o e = rw (absent "(" 40 refl s i n h q) (ap (λ o. refuses (Form o)) (sym e))
-
-  pub in_brackets : n ≢ i → (x r : FormulaRead) → Answers s n (Formulas.declared m (left s n)) x → Closes s x r → Answers s i (parsed_set m (left s i)) r
-  in_brackets q x r g k =
-      answers_from s i n h.from (rw (present "(" 40 refl s i n h q) (ap (λ u. then (Formulas.declared m u) closed) (behind_it "(" 40 refl s i n h q))) r (k n _ g)

@@ -9,12 +9,13 @@ use borrow.Author.Tests.{ne_eqb, leb-true}
 use lib.Dec.{eqb, leb}
 use lib.ListN.{get_or}
 use Rattle.meaning.specs.TestLaws.{and_right}
+use Rattle.std.specs.Prelude.{Some, None, Result}
+use Rattle.refusals.specs.declared.Refusal.{Refusal}
 use Rattle.refusals.specs.declared.Refusal.TheVariants.{Form}
 use Rattle.hoa_text.specs.Tokens.{digit, left}
 use Rattle.hoa_text.specs.Grammar.{is_sign, next, at, refuses}
 use Rattle.hoa_text.specs.Formulas.{Atoms, negates, unary}
 use Rattle.hoa_text.specs.Numbers.{digit_from}
-use Rattle.hoa_tokens.specs.Answers.{Skipped}
 use Rattle.hoa_offsets.specs.Behind.{Behind}
 use Rattle.hoa_offsets.specs.BehindLaws.{absent, its_offset}
 use Rattle.hoa_formulas.specs.declared.FormulaRead.{FormulaRead}
@@ -75,23 +76,17 @@ module _ (s : List ℕ) (i : ℕ) (x : FormulaToken) (h : Chosen s i x) where
       go false e = refl
       go true e = absurd (n (chosen_for (get_or s (offset_of x) 0) x h.opens ∙ sym (number_for (get_or s (offset_of x) 0) (offset_of x) e)))
 
-  pub no_sign : (c : ℕ) → x ≢ token_for c (offset_of x) → Behind s i c i
+  pub no_sign : (c : ℕ) → x ≢ token_for c (offset_of x) → Behind s i c None
   no_sign c n = sign_absent c s i (offset_of x) h.skipped (other_byte c n)
 
 -- ---- signs
 
 module _ (s : List ℕ) (i o : ℕ) where
-  pub behind_and : Chosen s i (And o) → Behind s i 38 (o + 1)
+  pub behind_and : Chosen s i (And o) → Behind s i 38 (Some (o + 1))
   behind_and h = sign_first 38 (λ r. refl) (λ z. absurd (omega arith)) s i o h.skipped h.opens
 
-  pub behind_or : Chosen s i (Or o) → Behind s i 124 (o + 1)
+  pub behind_or : Chosen s i (Or o) → Behind s i 124 (Some (o + 1))
   behind_or h = sign_first 124 (λ r. refl) (λ z. absurd (omega arith)) s i o h.skipped h.opens
-
-  pub behind_close : Chosen s i (Close o) → Behind s i 41 (o + 1)
-  behind_close h = sign_first 41 (λ r. refl) (λ z. absurd (omega arith)) s i o h.skipped h.opens
-
-  pub passes : Skipped s i o → o + 1 ≢ i
-  passes h q = absurd (omega (arith, h.from))
 
 -- ---- nothing of a formula
 
@@ -107,7 +102,7 @@ module _ (a : Atoms) (s : List ℕ) (i d : ℕ) (x : FormulaToken) (h : Chosen s
 
   pub nothing_read : x ≢ Not (offset_of x) → x ≢ Open (offset_of x) → x ≢ Constant (offset_of x) → x ≢ Number (offset_of x) → x ≢ Name (offset_of x)
       → (r : ℕ) → r ≡ at (left s i) → unary d a (left s i) ≡ refuses (Form r)
-  nothing_read m = nothing (no_not a (left s i) (absent "!" 33 refl s i i (no_sign s i x h 33 m) refl))
+  nothing_read m = nothing (no_not a (left s i) (absent "!" 33 refl s i (no_sign s i x h 33 m)))
 
 module _ (a : Atoms) (s : List ℕ) (i o d : ℕ) where
   -- a `!` that is no operator
@@ -115,9 +110,9 @@ module _ (a : Atoms) (s : List ℕ) (i o d : ℕ) where
   not_in_condition n h =
       let e : o ≡ o + 1 - 1 = omega arith in
       nothing a s i d (Not o) h (not_an_operator a (left s i) n) (λ q. cc) (λ q. cc) (λ q. cc) (λ q. cc) o
-      (e ∙ sym (its_offset "!" 33 refl s i (o + 1) (sign_first 33 (λ r. refl) (λ z. absurd (omega arith)) s i o h.skipped h.opens) (passes s i o h.skipped)))
+      (e ∙ sym (its_offset "!" 33 refl s i (o + 1) (sign_first 33 (λ r. refl) (λ z. absurd (omega arith)) s i o h.skipped h.opens)))
 
-  pub constant_read : Chosen s i (Constant o) → (r : FormulaRead) → ConstantAt s o r → Answers s i (unary d a (left s i)) r
+  pub constant_read : Chosen s i (Constant o) → (r : Result FormulaRead Refusal) → ConstantAt s o r → Answers s i (unary d a (left s i)) r
   constant_read h r x =
       let no = other_byte s i (Constant o) h in
       answers_from s i o h.skipped.from

@@ -1,11 +1,11 @@
 -- DEFINITION of what the answer of a function that reads part of a formula says (`Answers`): the letters, or the sets of marks, that satisfy it; or the refusal.
-use Rattle.std.specs.Prelude.{◌≡◌, Bool, List, ℕ, ◌≤◌, ◌<◌, length}
+use Rattle.std.specs.Prelude.{◌≡◌, Bool, List, ℕ, ◌≤◌, ◌<◌, length, Result, Ok, Err}
 use Rattle.meaning.specs.BitSet.{has}
+use Rattle.refusals.specs.declared.Refusal.{Refusal}
 use Rattle.hoa_text.specs.Tokens.{left}
 use Rattle.hoa_text.specs.Grammar.{gives, refuses, Parsed}
 use Rattle.hoa_text.specs.Formulas.{Formula, holds}
 use Rattle.hoa_formulas.specs.declared.FormulaRead.{FormulaRead}
-use Rattle.hoa_formulas.specs.declared.FormulaRead.TheVariants as Variants
 
 -- the set of the letters, or of the sets of marks, of which f says yes; there are at most 16
 abbrev pub Members : ℕ → (ℕ → Bool) → Type 0
@@ -23,6 +23,6 @@ pub record Read (s : List ℕ) (i : ℕ) (x : Parsed Formula) (set e : ℕ) : Ty
   pub from : i < e
   pub to : e ≤ length s
 
-abbrev pub Answers : List ℕ → ℕ → Parsed Formula → FormulaRead → Type 0
-Answers s i x (Variants.Members set e) = Read s i x set e
-Answers s i x (Variants.Refused r) = x ≡ refuses r
+abbrev pub Answers : List ℕ → ℕ → Parsed Formula → Result FormulaRead Refusal → Type 0
+Answers s i x (Ok r) = Read s i x r.members r.end
+Answers s i x (Err r) = x ≡ refuses r

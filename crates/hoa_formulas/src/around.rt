@@ -10,23 +10,21 @@ use refusals::Refusal;
 pub fn complement(read: FormulaRead) -> FormulaRead
     ensures { Denies read result }
 {
-    match read {
-        FormulaRead::Refused(refusal) => FormulaRead::Refused(refusal),
-        FormulaRead::Members(members, end) => FormulaRead::Members(members ^ ALL, end),
+    FormulaRead {
+        members: read.members ^ ALL,
+        end: read.end,
     }
 }
 
 // Behind an expression in brackets.
-pub fn closed(text: &[u8], read: FormulaRead) -> FormulaRead
+pub fn closed(text: &[u8], read: FormulaRead) -> Result<FormulaRead, Refusal>
     ensures { Closes text.now read result }
 {
-    match read {
-        FormulaRead::Refused(refusal) => FormulaRead::Refused(refusal),
-        FormulaRead::Members(members, end) => {
-            match formula_token(text, end) {
-                FormulaToken::Close(sign) => FormulaRead::Members(members, sign + 1),
-                _ => FormulaRead::Refused(Refusal::Form(offset(text, end))),
-            }
-        }
+    match formula_token(text, read.end) {
+        FormulaToken::Close(sign) => Ok(FormulaRead {
+            members: read.members,
+            end: sign + 1,
+        }),
+        _ => Err(Refusal::Form(offset(text, read.end))),
     }
 }

@@ -17,11 +17,11 @@ use refusals::Refusal;
 use terms::{constant, named, negates, numbered};
 use tokens::{FormulaToken, formula_token};
 
-// What a formula says: the letters, or the sets of marks, that satisfy it, bit x for x, and the offset behind it; or why it is refused.
+// What a formula says: the letters, or the sets of marks, that satisfy it, bit x for x, and the offset behind it.
 #[derive(Clone, Copy)]
-pub enum FormulaRead {
-    Members(u16, usize),
-    Refused(Refusal),
+pub struct FormulaRead {
+    pub members: u16,
+    pub end: usize,
 }
 
 // What a formula is read over: so many propositions, or so many sets.
@@ -38,105 +38,75 @@ const NESTING: usize = 32;
 pub const ALL: u16 = ((1usize << Automaton::LETTERS) - 1) as u16;
 
 // The label at or after an offset.
-pub fn label(text: &[u8], at: usize, propositions: usize) -> FormulaRead
+pub fn label(text: &[u8], at: usize, propositions: usize) -> Result<FormulaRead, Refusal>
     ensures { Answers text.now at (label propositions (left text.now at)) result }
 {
     or(text, at, Atoms::Propositions(propositions), NESTING)
 }
 
 // The acceptance condition at or after an offset.
-pub fn condition(text: &[u8], at: usize, sets: usize) -> FormulaRead
+pub fn condition(text: &[u8], at: usize, sets: usize) -> Result<FormulaRead, Refusal>
     ensures { Answers text.now at (acceptance_formula sets (left text.now at)) result }
 {
     or(text, at, Atoms::Sets(sets), NESTING)
 }
 
 #[cycle(and_or_unary)]
-fn or(text: &[u8], at: usize, over: Atoms, depth: usize) -> FormulaRead
+fn or(text: &[u8], at: usize, over: Atoms, depth: usize) -> Result<FormulaRead, Refusal>
     ensures { Answers text.now at (disjunctions (unary depth (atoms_of over)) (left text.now at)) result }
 {
-    match and(text, at, over, depth) {
-        FormulaRead::Refused(refusal) => FormulaRead::Refused(refusal),
-        FormulaRead::Members(first, next) => {
-            let mut members = first;
-            let mut end = next;
-            loop {
-                match formula_token(text, end) {
-                    FormulaToken::Or(sign) => {
-                        match and(text, sign + 1, over, depth) {
-                            FormulaRead::Refused(refusal) => {
-                                return FormulaRead::Refused(refusal);
-                            }
-                            FormulaRead::Members(more, further) => {
-                                members = members | more;
-                                end = further;
-                            }
-                        }
-                    }
-                    _ => {
-                        return FormulaRead::Members(members, end);
-                    }
-                }
-            }
-        }
+    let mut read = and(text, at, over, depth)?;
+    while let FormulaToken::Or(sign) = formula_token(text, read.end) {
+        let next = and(text, sign + 1, over, depth)?;
+        read = FormulaRead {
+            members: read.members | next.members,
+            end: next.end,
+        };
     }
+    Ok(read)
 }
 
 #[cycle(and_or_unary)]
-fn and(text: &[u8], at: usize, over: Atoms, depth: usize) -> FormulaRead
+fn and(text: &[u8], at: usize, over: Atoms, depth: usize) -> Result<FormulaRead, Refusal>
     ensures { Answers text.now at (conjunctions (unary depth (atoms_of over)) (left text.now at)) result }
 {
-    match unary(text, at, over, depth) {
-        FormulaRead::Refused(refusal) => FormulaRead::Refused(refusal),
-        FormulaRead::Members(first, next) => {
-            let mut members = first;
-            let mut end = next;
-            loop {
-                match formula_token(text, end) {
-                    FormulaToken::And(sign) => {
-                        match unary(text, sign + 1, over, depth) {
-                            FormulaRead::Refused(refusal) => {
-                                return FormulaRead::Refused(refusal);
-                            }
-                            FormulaRead::Members(more, further) => {
-                                members = members & more;
-                                end = further;
-                            }
-                        }
-                    }
-                    _ => {
-                        return FormulaRead::Members(members, end);
-                    }
-                }
-            }
-        }
+    let mut read = unary(text, at, over, depth)?;
+    while let FormulaToken::And(sign) = formula_token(text, read.end) {
+        let next = unary(text, sign + 1, over, depth)?;
+        read = FormulaRead {
+            members: read.members & next.members,
+            end: next.end,
+        };
     }
+    Ok(read)
 }
 
 // A negation, an expression in brackets, or an atom.
 #[cycle(and_or_unary)]
-fn unary(text: &[u8], at: usize, over: Atoms, depth: usize) -> FormulaRead
+fn unary(text: &[u8], at: usize, over: Atoms, depth: usize) -> Result<FormulaRead, Refusal>
     ensures { Answers text.now at (unary depth (atoms_of over) (left text.now at)) result }
 {
     match formula_token(text, at) {
         FormulaToken::Not(sign) => {
             if !negates(over) {
-                return FormulaRead::Refused(Refusal::Form(sign));
+                return Err(Refusal::Form(sign));
             }
             if depth == 0 {
-                return FormulaRead::Refused(Refusal::Size(sign));
+                return Err(Refusal::Size(sign));
             }
-            complement(unary(text, sign + 1, over, depth - 1))
+            let read = unary(text, sign + 1, over, depth - 1)?;
+            Ok(complement(read))
         }
         FormulaToken::Open(sign) => {
             if depth == 0 {
-                return FormulaRead::Refused(Refusal::Size(sign));
+                return Err(Refusal::Size(sign));
             }
-            closed(text, or(text, sign + 1, over, depth - 1))
+            let read = or(text, sign + 1, over, depth - 1)?;
+            closed(text, read)
         }
         FormulaToken::Number(number) => numbered(text, number, over),
         FormulaToken::Constant(word) => constant(text, word),
         FormulaToken::Name(word) => named(text, word, over),
-        _ => FormulaRead::Refused(Refusal::Form(offset(text, at))),
+        _ => Err(Refusal::Form(offset(text, at))),
     }
 }

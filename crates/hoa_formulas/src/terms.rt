@@ -24,63 +24,63 @@ pub fn negates(over: Atoms) -> bool
 }
 
 // A number, at the digit that opens it: a proposition, and nothing of a condition.
-pub fn numbered(text: &[u8], at: usize, over: Atoms) -> FormulaRead
+pub fn numbered(text: &[u8], at: usize, over: Atoms) -> Result<FormulaRead, Refusal>
     requires { digit (get_or text.now at 0) ≡ true }
     ensures { Answers text.now at (atom (atoms_of over) (left text.now at)) result }
 {
     match over {
         Atoms::Propositions(count) => proposition(text, at, count),
-        Atoms::Sets(count) => FormulaRead::Refused(Refusal::Form(offset(text, at))),
+        Atoms::Sets(_) => Err(Refusal::Form(offset(text, at))),
     }
 }
 
 // A word that begins as `Inf` or `Fin` does: a set, and nothing of a label.
-pub fn named(text: &[u8], at: usize, over: Atoms) -> FormulaRead
+pub fn named(text: &[u8], at: usize, over: Atoms) -> Result<FormulaRead, Refusal>
     requires { (get_or text.now at 0 ≡ 73) ⊎ (get_or text.now at 0 ≡ 70) }
     ensures { Answers text.now at (atom (atoms_of over) (left text.now at)) result }
 {
     match over {
-        Atoms::Propositions(count) => FormulaRead::Refused(Refusal::Form(offset(text, at))),
+        Atoms::Propositions(_) => Err(Refusal::Form(offset(text, at))),
         Atoms::Sets(count) => set(text, at, count),
     }
 }
 
 // `t` or `f`.
-pub fn constant(text: &[u8], at: usize) -> FormulaRead
+pub fn constant(text: &[u8], at: usize) -> Result<FormulaRead, Refusal>
     ensures { ConstantAt text.now at result }
 {
     match next_token(text, at) {
         Token::Word(offset, end) => constant_word(text, offset, end),
-        _ => FormulaRead::Refused(Refusal::Form(offset(text, at))),
+        _ => Err(Refusal::Form(offset(text, at))),
     }
 }
 
 // The word from `start` up to `end`.
-fn constant_word(text: &[u8], start: usize, end: usize) -> FormulaRead
+fn constant_word(text: &[u8], start: usize, end: usize) -> Result<FormulaRead, Refusal>
     requires { (start < end) × (end ≤ length text.now) }
     ensures { ConstantWord text.now start end result }
 {
     if spells(text, start, end, &TRUE) {
-        return FormulaRead::Members(ALL, end);
+        return Ok(FormulaRead { members: ALL, end });
     }
     if spells(text, start, end, &FALSE) {
-        return FormulaRead::Members(0, end);
+        return Ok(FormulaRead { members: 0, end });
     }
-    FormulaRead::Refused(Refusal::Form(start))
+    Err(Refusal::Form(start))
 }
 
 // `Inf` or `Fin`, and its set.
-fn set(text: &[u8], at: usize, sets: usize) -> FormulaRead
+fn set(text: &[u8], at: usize, sets: usize) -> Result<FormulaRead, Refusal>
     ensures { Answers text.now at (Formulas.named (Formulas.sets sets) (left text.now at)) result }
 {
     match next_token(text, at) {
         Token::Word(offset, end) => set_word(text, offset, end, sets),
-        _ => FormulaRead::Refused(Refusal::Form(offset(text, at))),
+        _ => Err(Refusal::Form(offset(text, at))),
     }
 }
 
 // The word from `start` up to `end`, and what follows it.
-fn set_word(text: &[u8], start: usize, end: usize, sets: usize) -> FormulaRead
+fn set_word(text: &[u8], start: usize, end: usize, sets: usize) -> Result<FormulaRead, Refusal>
     requires { (start < end) × (end ≤ length text.now) }
     ensures { SetWord text.now start end sets result }
 {
@@ -88,24 +88,25 @@ fn set_word(text: &[u8], start: usize, end: usize, sets: usize) -> FormulaRead
         return set_in_brackets(text, end, sets);
     }
     if spells(text, start, end, &FIN) {
-        return complement(set_in_brackets(text, end, sets));
+        let read = set_in_brackets(text, end, sets)?;
+        return Ok(complement(read));
     }
-    FormulaRead::Refused(Refusal::Form(start))
+    Err(Refusal::Form(start))
 }
 
 // A set in brackets.
-fn set_in_brackets(text: &[u8], at: usize, sets: usize) -> FormulaRead
+fn set_in_brackets(text: &[u8], at: usize, sets: usize) -> Result<FormulaRead, Refusal>
     ensures { Answers text.now at (parsed_set sets (left text.now at)) result }
 {
-    let next = behind(text, at, b'(');
-    if next == at {
-        return FormulaRead::Refused(Refusal::Form(offset(text, at)));
-    }
-    closed(text, declared(text, next, sets))
+    let Some(next) = behind(text, at, b'(') else {
+        return Err(Refusal::Form(offset(text, at)));
+    };
+    let read = declared(text, next, sets)?;
+    closed(text, read)
 }
 
 // A proposition's number, of so many that are declared: it mostly stands right there.
-fn proposition(text: &[u8], at: usize, count: usize) -> FormulaRead
+fn proposition(text: &[u8], at: usize, count: usize) -> Result<FormulaRead, Refusal>
     ensures { Answers text.now at (declared count (left text.now at)) result }
 {
     let here = number_here(text, at);
@@ -118,23 +119,26 @@ fn proposition(text: &[u8], at: usize, count: usize) -> FormulaRead
 }
 
 // A number, of so many that are declared.
-fn declared(text: &[u8], at: usize, count: usize) -> FormulaRead
+fn declared(text: &[u8], at: usize, count: usize) -> Result<FormulaRead, Refusal>
     ensures { Answers text.now at (declared count (left text.now at)) result }
 {
     match next_token(text, at) {
         Token::Number(offset, value, end) => number(offset, value, end, count),
-        _ => FormulaRead::Refused(Refusal::Form(offset(text, at))),
+        _ => Err(Refusal::Form(offset(text, at))),
     }
 }
 
 // The number `value`, from `start` up to `end`, of so many that are declared.
-fn number(start: usize, value: usize, end: usize, count: usize) -> FormulaRead
+fn number(start: usize, value: usize, end: usize, count: usize) -> Result<FormulaRead, Refusal>
     ensures { Given start value end count result }
 {
     if value < count {
-        FormulaRead::Members(letters_with(value), end)
+        Ok(FormulaRead {
+            members: letters_with(value),
+            end,
+        })
     } else {
-        FormulaRead::Refused(Refusal::Undeclared(start))
+        Err(Refusal::Undeclared(start))
     }
 }
 

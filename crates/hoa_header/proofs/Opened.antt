@@ -1,6 +1,6 @@
 -- Laws of the whole header: the value without transitions, `--BODY--`, and the items one by one.
 use mathlib.Core.Path.{◌≡◌, refl, sym, ap, ◌∙◌, subst}
-use mathlib.Core.Bool.{true, false≢true, and-false}
+use mathlib.Core.Bool.{true, and-false}
 use mathlib.Core.List.{List, [], ◌∷◌, ◌++◌}
 use mathlib.Core.Option.{Option, none, some}
 use Prim.Native.Nat.{ℕ, zero, suc, ◌+◌, ◌-◌, ◌≤◌, ◌<◌}
@@ -16,24 +16,30 @@ use Rattle.refusals.specs.declared.Refusal.{Refusal}
 use Rattle.refusals.specs.declared.Refusal.TheVariants.{Form}
 use Rattle.automaton.specs.Value.{empty}
 use Rattle.automaton.specs.Bytes.{bytes}
-use Rattle.hoa_text.specs.Basics.{option, is_some, begins}
-use Rattle.hoa_text.specs.Tokens.{item, Stream, stands, left}
-use Rattle.hoa_text.specs.Grammar.{is_item, is_word, at, gives, refuses, then, repeat, expect}
-use Rattle.hoa_text.specs.Header.{Accepting, Items, Header, opening, opened, item_read, no_items, header}
+use Rattle.hoa_text.specs.Basics.{option, begins}
+use Rattle.hoa_text.specs.Tokens.{item, stands, left}
+use Rattle.hoa_text.specs.Grammar.{is_item, is_word, at, refuses, then, repeat, expect}
+use Rattle.hoa_text.specs.Header.{Items, Header, opening, opened, item_read, no_items, header}
 use Rattle.hoa_text.specs.Repetition.{repeat_again, repeat_done, repeat_refuses}
 use Rattle.hoa_text.specs.HeaderProgress.{item_shrinks}
 use Rattle.hoa_tokens.specs.declared.Token.{Token}
 use Rattle.hoa_tokens.specs.declared.Token.TheVariants.{Word, Item, Number, Quoted, Sign, Body, End, Abort, Unread, Over, Broken}
 use Rattle.hoa_tokens.specs.Answers.{stream, Reads}
-use Rattle.hoa_names.specs.declared.Step.{Step}
+use Rattle.hoa_names.specs.declared.Names.{Names}
+use Rattle.hoa_names.specs.Answers.{held}
+use Rattle.std.specs.Option.{unwrap_or}
+use Rattle.std.specs.Prelude.{Some, None, Result as Read, Ok, Err}
 use Rattle.hoa_acceptance.specs.Answers.{Past}
 use Rattle.hoa_header.specs.declared.HeaderRead.{HeaderRead}
-use Rattle.hoa_header.specs.declared.Answer.{Answer}
 use Rattle.hoa_header.specs.declared.items.ItemRead.{ItemRead}
 use Rattle.hoa_header.specs.declared.items.Items as Code
-use Rattle.hoa_header.specs.Kept.{kept, Turned, Turns, ReadsItem}
+use Rattle.hoa_header.specs.declared.items.Accepting.{Accepting}
+use Rattle.hoa_header.specs.declared.items.Start.{Start}
+use Rattle.hoa_text.specs.Body.{no_states}
+use Rattle.hoa_text.specs.Reading.{made}
+use Rattle.hoa_header.specs.Kept.{item_kept, kept, Turned, ReadsItem}
 use Rattle.hoa_header.specs.Answers.{Answered, Answers}
-use Rattle.hoa_header.specs.Opening.{ReadsItems, Opens, Unfilled}
+use Rattle.hoa_header.specs.Opening.{ReadsItems, Opens}
 
 -- ---- the value without transitions
 
@@ -41,65 +47,48 @@ zeros : (n : ℕ) → replicate {A = ℕ} n 0 ≡ each n (λ i. 0 ∷ [])
 zeros zero = refl
 zeros (suc n) = ap (λ k. replicate {A = ℕ} k 0) (sym (add-one n)) ∙ sym (replicate-append-replicate n 1 0) ∙ ap (λ l. l ++ (0 ∷ [])) (zeros n)
 
-pub unfilled : (c : Code.Items) (a : Automaton) → a ≡ empty
-    → Unfilled c (record { states = c.states; start = c.start; propositions = c.names.count; sets = c.sets; acceptance = c.acceptance; lengths = c.names.lengths; names = c.names.bytes; destinations = a.destinations; marks = a.marks })
-unfilled c a e g h = λ i. record {
-  states = h.states i;
-  start = h.start i;
-  propositions = (h.names i).count;
-  sets = h.sets i;
-  acceptance = h.acceptance i;
-  lengths = (h.names i).lengths;
-  names = (h.names i).bytes;
-  destinations = (ap (λ a. a.destinations) e ∙ zeros 256) i;
-  marks = (ap (λ a. a.marks) e ∙ zeros 256) i;
+-- the code's value of a header
+pub unfilled : (g : Header) (c : Names) → c ≡ held g.names → (z : Automaton) → z ≡ empty
+    → record { states = g.states; start = g.start; propositions = c.count; sets = g.sets; acceptance = g.acceptance; lengths = c.lengths; names = c.bytes; destinations = z.destinations; marks = z.marks } ≡ made g no_states
+unfilled g c e z q = λ i. record {
+  states = g.states;
+  start = g.start;
+  propositions = (e i).count;
+  sets = g.sets;
+  acceptance = g.acceptance;
+  lengths = (e i).lengths;
+  names = (e i).bytes;
+  destinations = (ap (λ a. a.destinations) q ∙ zeros 256) i;
+  marks = (ap (λ a. a.marks) q ∙ zeros 256) i;
 }
 
 -- ---- `--BODY--`
 
-found : {A : Type 0} (x : Option A) → is_some x ≡ true → (a : A) × (x ≡ some a)
-found none e = absurd (false≢true e)
-found (some a) e = (a, refl)
+found : {A B : Type 0} (f : A → B) (x : Option A) (b : B) → item_kept f x ≡ Some b → (a : A) × (x ≡ some a) × (f a ≡ b)
+found f none b e = absurd cc
+found f (some a) b e = (a, refl, cc)
 
-with_all : (h : Items) (o : ℕ) (u : Stream) (n : ℕ) → h.states ≡ some n → (x : ℕ × ℕ) → h.start ≡ some x → (y : Accepting) → h.accepting ≡ some y → x.0 < n
-    → opening h o u ≡ gives (record { states = n; start = x.0; names = option h.names [] (λ ws. ws); sets = y.sets; acceptance = y.acceptance }, u)
-with_all h o u n p x q y e l = rw (p, q, e, lt-ltb x.0 n l)
+-- the names that the value keeps
+names_are : (x : Option (List (List ℕ))) → unwrap_or (item_kept held x) (held []) ≡ held (option x [] (λ ws. ws))
+names_are none = refl
+names_are (some ws) = refl
 
--- the value keeps them
-module _ (c : Code.Items) (h : Items) (k : c ≡ kept h) where
-  states_found : c.counted ≡ true → (n : ℕ) × (h.states ≡ some n)
-  states_found e = found h.states (sym (ap (λ c. c.counted) k) ∙ e)
-
-  start_found : c.started ≡ true → (x : ℕ × ℕ) × (h.start ≡ some x)
-  start_found e = found h.start (sym (ap (λ c. c.started) k) ∙ e)
-
-  sets_found : c.accepting ≡ true → (y : Accepting) × (h.accepting ≡ some y)
-  sets_found e = found h.accepting (sym (ap (λ c. c.accepting) k) ∙ e)
-
-  states_are : (n : ℕ) → h.states ≡ some n → c.states ≡ n
-  states_are n p = ap (λ c. c.states) k ∙ ap (λ y. option y 0 (λ n. n)) p
-
-  start_is : (x : ℕ × ℕ) → h.start ≡ some x → c.start ≡ x.0
-  start_is x q = ap (λ c. c.start) k ∙ ap (λ y. option y 0 (λ x. x.0)) q
-
-pub opens : (c : Code.Items) (o e : ℕ) → c.counted ≡ true → c.started ≡ true → c.accepting ≡ true → c.start < c.states → (a : Automaton) → Unfilled c a
-    → Opens c o e (record { answer = Answer.Body e; automaton = a })
-opens c o e counted started accepting f a g h k s l b =
-    let (n, p) = states_found c h k counted in
-    let (x, p₂) = start_found c h k started in
-    let (y, p₃) = sets_found c h k accepting in
-    let names : List (List ℕ) = option h.names [] (λ ws. ws) in
-    let there : Header = record { states = n; start = x.0; names = names; sets = y.sets; acceptance = y.acceptance } in
+pub opens : (c : Code.Items) (o e n : ℕ) → c.states ≡ Some n → (x : Start) → c.start ≡ Some x → (y : Accepting) → c.accepting ≡ Some y → x.state < n
+    → (v : Names) → v ≡ unwrap_or c.names (held []) → (z : Automaton) → z ≡ empty
+    → Opens c o e (Ok (record { automaton = record { states = n; start = x.state; propositions = v.count; sets = y.sets; acceptance = y.acceptance; lengths = v.lengths; names = v.bytes; destinations = z.destinations; marks = z.marks }; end = e }))
+opens c o e n is_n x is_x y is_y g v is_v z is_z h k s l b =
+    let (m, p, q) = found (λ n. n) h.states n (sym (ap (λ c. c.states) k) ∙ is_n) in
+    let (m₂, p₂, q₂) = found (λ q. record { state = q.0; offset = q.1 }) h.start x (sym (ap (λ c. c.start) k) ∙ is_x) in
+    let (m₃, p₃, q₃) = found (λ x. record { sets = x.sets; acceptance = x.acceptance }) h.accepting y (sym (ap (λ c. c.accepting) k) ∙ is_y) in
+    let there : Header = record { states = n; start = x.state; names = option h.names [] (λ ws. ws); sets = y.sets; acceptance = y.acceptance } in
     record {
       header = there;
-      is = with_all h o (left s e) n p x p₂ y p₃ (omega (arith, states_are c h k n p, start_is c h k x p₂));
-      automaton = g there (record {
-        states = states_are c h k n p;
-        start = start_is c h k x p₂;
-        names = ap (λ c. c.names) k;
-        sets = ap (λ c. c.sets) k ∙ ap (λ z. option z 0 (λ y. y.sets)) p₃;
-        acceptance = ap (λ c. c.acceptance) k ∙ ap (λ z. option z 0 (λ y. y.acceptance)) p₃;
-      });
+      is =
+          let e₁ : h.states ≡ some n = p ∙ ap some q in
+          let e₂ : h.start ≡ some (x.state, x.offset) = p₂ ∙ ap (λ x. some (x.state, x.offset)) q₂ in
+          let e₃ : h.accepting ≡ some (record { sets = y.sets; acceptance = y.acceptance }) = p₃ ∙ ap (λ y. some (record { sets = y.sets; acceptance = y.acceptance })) q₃ in
+          rw (e₁, e₂, e₃, lt-ltb x.state n g);
+      automaton = unfilled there v (is_v ∙ ap (λ c. unwrap_or c.names (held [])) k ∙ names_are h.names) z is_z;
       to = l;
       behind = b;
     }
@@ -117,32 +106,33 @@ pub items_none : (s : List ℕ) (i : ℕ) → i ≤ length s → (c : Code.Items
 items_none s i l c e = record { items = no_items; is = refl; keeps = e; to = l }
 
 module _ (s : List ℕ) (i : ℕ) (c : Code.Items) (e : ℕ) (f : ItemsSoFar s i c e) where
-  refused_here : (z : Refusal) → item_read f.items (left s e) ≡ refuses z → (r : HeaderRead) → r ≡ record { answer = Answer.Refused z; automaton = empty } → ReadsItems s i r
-  refused_here z x r q = subst (ReadsItems s i) (sym q) (f.is ∙ repeat_refuses item_read item_shrinks f.items (left s e) x, refl)
+  refused_here : (z : Refusal) → item_read f.items (left s e) ≡ refuses z → ReadsItems s i (Err z)
+  refused_here z x = f.is ∙ repeat_refuses item_read item_shrinks f.items (left s e) x
 
   -- an item
-  module _ (o k : ℕ) (t : Reads s e (Item o k)) (r : ItemRead) (g : ReadsItem s o k c r) where
-    pub item_refused : (z : Refusal) → r.step ≡ Step.Refused z → (y : HeaderRead) → y ≡ record { answer = Answer.Refused z; automaton = empty } → ReadsItems s i y
-    item_refused z q y p = refused_here z (ap (item_read f.items) t.is ∙ subst (Turns s k _ r.items) q (g f.items f.keeps)) y p
+  module _ (o k : ℕ) (t : Reads s e (Item o k)) where
+    pub item_refused : (z : Refusal) → ReadsItem s o k c (Err z) → ReadsItems s i (Err z)
+    item_refused z g = refused_here z (ap (item_read f.items) t.is ∙ g f.items f.keeps)
 
-    turned : (d : ℕ) → r.step ≡ Step.Next d → Turned s k (item_read f.items (stands o (item (slice o k s)) (left s (k + 1)))) r.items d
-    turned d q = subst (Turns s k _ r.items) q (g f.items f.keeps)
+    module _ (r : ItemRead) (g : ReadsItem s o k c (Ok r)) where
+      turned : Turned s k (item_read f.items (stands o (item (slice o k s)) (left s (k + 1)))) r.items r.end
+      turned = g f.items f.keeps
 
-    pub item_further : (d : ℕ) → r.step ≡ Step.Next d → (e < d) × (d ≤ length s)
-    item_further d q = (omega (arith, t.lies.from, t.lies.longer, (turned d q).from), (turned d q).to)
+      pub item_further : (e < r.end) × (r.end ≤ length s)
+      item_further = (omega (arith, t.lies.from, t.lies.longer, turned.from), turned.to)
 
-    pub item_more : (d : ℕ) → r.step ≡ Step.Next d → ItemsSoFar s i r.items d
-    item_more d q = record {
-      items = (turned d q).items;
-      is = f.is ∙ repeat_again item_read item_shrinks f.items (left s e) (ap (item_read f.items) t.is ∙ (turned d q).is);
-      keeps = (turned d q).keeps;
-      to = (turned d q).to;
-    }
+      pub item_more : ItemsSoFar s i r.items r.end
+      item_more = record {
+        items = turned.items;
+        is = f.is ∙ repeat_again item_read item_shrinks f.items (left s e) (ap (item_read f.items) t.is ∙ turned.is);
+        keeps = turned.keeps;
+        to = turned.to;
+      }
 
   -- the body
-  pub body_opens : (o : ℕ) → Reads s e (Body o) → (r : HeaderRead) → Opens c o (o + 8) r → ReadsItems s i r
+  pub body_opens : (o : ℕ) → Reads s e (Body o) → (r : Read HeaderRead Refusal) → Opens c o (o + 8) r → ReadsItems s i r
   unfolding item_read
-  body_opens o t r g = go r.automaton r.answer (g f.items f.keeps s t.lies.to spelled)
+  body_opens o t r g = go r (g f.items f.keeps s t.lies.to spelled)
     where
       spelled : begins (bytes "--BODY--") (drop (o + 8 - 8) s) ≡ true
       spelled = let m : o ≡ o + 8 - 8 = omega arith in subst (λ n. begins (bytes "--BODY--") (drop n s) ≡ true) m t.lies.is
@@ -150,21 +140,20 @@ module _ (s : List ℕ) (i : ℕ) (c : Code.Items) (e : ℕ) (f : ItemsSoFar s i
       here : item_read f.items (left s e) ≡ then (opening f.items o (left s (o + 8))) opened
       here = ap (item_read f.items) t.is
 
-      go : (a : Automaton) (x : Answer) → Answered s (opening f.items o (left s (o + 8))) a x → Answered s (repeat item_read no_items (left s i)) a x
-      go a (Answer.Body d) x = record {
+      go : (r : Read HeaderRead Refusal) → Answered s (opening f.items o (left s (o + 8))) r → ReadsItems s i r
+      go (Ok r) x = record {
         header = x.header;
         is = f.is ∙ repeat_done item_read item_shrinks f.items (left s e) (here ∙ ap (λ y. then y opened) x.is);
         automaton = x.automaton;
         to = x.to;
         behind = x.behind;
       }
-      go a (Answer.Refused z) x = (f.is ∙ repeat_refuses item_read item_shrinks f.items (left s e) (here ∙ ap (λ y. then y opened) x.0), x.1)
+      go (Err z) x = f.is ∙ repeat_refuses item_read item_shrinks f.items (left s e) (here ∙ ap (λ y. then y opened) x)
 
   -- neither
-  pub no_item : (o : ℕ) (t : Token) → Reads s e t → ((o k : ℕ) → t ≡ Item o k → ⊥) → ((o : ℕ) → t ≡ Body o → ⊥) → o ≡ at (left s e)
-      → (r : HeaderRead) → r ≡ record { answer = Answer.Refused (Form o); automaton = empty } → ReadsItems s i r
+  pub no_item : (o : ℕ) (t : Token) → Reads s e t → ((o k : ℕ) → t ≡ Item o k → ⊥) → ((o : ℕ) → t ≡ Body o → ⊥) → o ≡ at (left s e) → ReadsItems s i (Err (Form o))
   unfolding item_read
-  no_item o t g k b q r p = refused_here (Form o) (ap (item_read f.items) g.is ∙ go f.items t k b ∙ ap (λ o. refuses (Form o)) (sym (q ∙ ap at g.is))) r p
+  no_item o t g k b q = refused_here (Form o) (ap (item_read f.items) g.is ∙ go f.items t k b ∙ ap (λ o. refuses (Form o)) (sym (q ∙ ap at g.is)))
     where
       go : (h : Items) (t : Token) → ((o k : ℕ) → t ≡ Item o k → ⊥) → ((o : ℕ) → t ≡ Body o → ⊥) → item_read h (stream s t) ≡ refuses (Form (at (stream s t)))
       go h (Word o e) k b = refl
@@ -181,16 +170,16 @@ module _ (s : List ℕ) (i : ℕ) (c : Code.Items) (e : ℕ) (f : ItemsSoFar s i
 
 -- ---- `HOA: v1`
 
-module _ (s : List ℕ) (r : HeaderRead) (v : ℕ) (f : Past (is_item "HOA") s 0 v) where
-  pub no_format : v ≡ 0 → (o : ℕ) → o ≡ at (left s 0) → r ≡ record { answer = Answer.Refused (Form o); automaton = empty } → Answers s r
-  no_format q o p e = subst (Answers s) (sym e) (rw (f.absent q) (ap (λ o. refuses (Form o)) (sym p)), refl)
+module _ (s : List ℕ) where
+  pub no_format : Past (is_item "HOA") s 0 None → (o : ℕ) → o ≡ at (left s 0) → Answers s (Err (Form o))
+  no_format f o p = rw f (ap (λ o. refuses (Form o)) (sym p))
 
-  module _ (n : v ≡ 0 → ⊥) (e : ℕ) (g : Past (is_word "v1") s v e) where
+  module _ (v : ℕ) (f : Past (is_item "HOA") s 0 (Some v)) where
     format : header (left s 0) ≡ expect (is_word "v1") (left s v) (repeat item_read no_items)
-    format = rw (f.present n) (ap (λ u. expect (is_word "v1") u (repeat item_read no_items)) (f.behind n))
+    format = rw f.present (ap (λ u. expect (is_word "v1") u (repeat item_read no_items)) f.behind)
 
-    pub no_version : e ≡ v → (o : ℕ) → o ≡ at (left s v) → r ≡ record { answer = Answer.Refused (Form o); automaton = empty } → Answers s r
-    no_version q o p x = subst (Answers s) (sym x) (format ∙ rw (g.absent q) (ap (λ o. refuses (Form o)) (sym p)), refl)
+    pub no_version : Past (is_word "v1") s v None → (o : ℕ) → o ≡ at (left s v) → Answers s (Err (Form o))
+    no_version g o p = format ∙ rw g (ap (λ o. refuses (Form o)) (sym p))
 
-    pub versioned : (e ≡ v → ⊥) → ReadsItems s e r → Answers s r
-    versioned q x = subst (λ y. Answered s y r.automaton r.answer) (sym (format ∙ rw (g.present q) (ap (repeat item_read no_items) (g.behind q)))) x
+    pub versioned : (e : ℕ) → Past (is_word "v1") s v (Some e) → (r : Read HeaderRead Refusal) → ReadsItems s e r → Answers s r
+    versioned e g r x = subst (λ y. Answered s y r) (sym (format ∙ rw g.present (ap (repeat item_read no_items) g.behind))) x

@@ -1,7 +1,7 @@
 -- DEFINITION of what the answer of `header` says (`Answers`): the header that the text has, as an automaton, or the refusal.
-use Rattle.std.specs.Prelude.{◌≡◌, true, List, ℕ, ◌-◌, ◌≤◌, length, drop}
+use Rattle.std.specs.Prelude.{◌≡◌, Result, Ok, Err, true, List, ℕ, ◌-◌, ◌≤◌, length, drop}
 use Rattle.automaton.specs.declared.Automaton.{Automaton}
-use Rattle.automaton.specs.Value.{empty}
+use Rattle.refusals.specs.declared.Refusal.{Refusal}
 use Rattle.automaton.specs.Bytes.{bytes}
 use Rattle.hoa_text.specs.Basics.{begins}
 use Rattle.hoa_text.specs.Tokens.{tokens, left}
@@ -10,8 +10,6 @@ use Rattle.hoa_text.specs.Header.{Header, header}
 use Rattle.hoa_text.specs.Body.{no_states}
 use Rattle.hoa_text.specs.Reading.{made}
 use Rattle.hoa_header.specs.declared.HeaderRead.{HeaderRead}
-use Rattle.hoa_header.specs.declared.Answer.{Answer}
-use Rattle.hoa_header.specs.declared.Answer.TheVariants.{Body, Refused}
 
 -- x gives a header; a is its automaton, with no transitions yet, and e is directly behind the word `--BODY--`
 pub record Opened (s : List ℕ) (x : Parsed Header) (a : Automaton) (e : ℕ) : Type 0 where
@@ -21,9 +19,9 @@ pub record Opened (s : List ℕ) (x : Parsed Header) (a : Automaton) (e : ℕ) :
   pub to : e ≤ length s
   pub behind : begins (bytes "--BODY--") (drop (e - 8) s) ≡ true
 
-abbrev pub Answered : List ℕ → Parsed Header → Automaton → Answer → Type 0
-Answered s x a (Body e) = Opened s x a e
-Answered s x a (Refused r) = (x ≡ refuses r) × (a ≡ empty)
+abbrev pub Answered : List ℕ → Parsed Header → Result HeaderRead Refusal → Type 0
+Answered s x (Ok r) = Opened s x r.automaton r.end
+Answered s x (Err z) = x ≡ refuses z
 
-abbrev pub Answers : List ℕ → HeaderRead → Type 0
-Answers s r = Answered s (header (tokens s)) r.automaton r.answer
+abbrev pub Answers : List ℕ → Result HeaderRead Refusal → Type 0
+Answers s r = Answered s (header (tokens s)) r

@@ -1,60 +1,60 @@
 // The items of a header: `States:`, `Start:`, `AP:` and `Acceptance:`, each once, and others that are skipped.
 ghost use Rattle.std.specs.Prelude.{◌≡◌, ◌+◌, ◌≤◌, ◌<◌, length};
-ghost use Rattle.hoa_text.specs.Tokens.{between};
 ghost use Rattle.hoa_text.specs.Header.{no_items};
-ghost use Rattle.hoa_names.specs.declared.Step.TheVariants.{Refused};
 ghost use Rattle.hoa_header.specs.Kept.{kept, ReadsItem, ReadsStates, StatesGiven, ReadsStart, ReadsAp, ReadsAcceptance, Skips};
 
 use crate::expected::behind_plain;
 use automaton::Automaton;
-use hoa_acceptance::{SetsRead, acceptance};
-use hoa_names::{Names, Step, none, propositions};
+use hoa_acceptance::acceptance;
+use hoa_names::{Names, propositions};
 use hoa_offsets::offset;
 use hoa_tokens::{Token, next_token};
 use hoa_words::{ACCEPTANCE, AP, START, STATES, names_item};
 use refusals::Refusal;
 
-// The items read so far: what was not read yet is false and 0. Of the start its number, and that number's offset.
+// The items read so far.
 #[derive(Clone, Copy)]
 pub struct Items {
-    pub counted: bool,
-    pub states: usize,
-    pub started: bool,
-    pub start: usize,
+    pub states: Option<usize>,
+    pub start: Option<Start>,
+    pub names: Option<Names>,
+    pub accepting: Option<Accepting>,
+}
+
+// The number behind `Start:`, and that number's offset.
+#[derive(Clone, Copy)]
+pub struct Start {
+    pub state: usize,
     pub offset: usize,
-    pub named: bool,
-    pub names: Names,
-    pub accepting: bool,
+}
+
+// The number of sets, and the acceptance: bit x for the set of marks x.
+#[derive(Clone, Copy)]
+pub struct Accepting {
     pub sets: usize,
     pub acceptance: u16,
 }
 
+// The items with one more, and the offset directly behind it.
 #[derive(Clone, Copy)]
 pub struct ItemRead {
-    pub step: Step,
     pub items: Items,
+    pub end: usize,
 }
 
 pub fn no_items() -> Items
     ensures { result ≡ kept no_items }
 {
-    let names = none();
     Items {
-        counted: false,
-        states: 0,
-        started: false,
-        start: 0,
-        offset: 0,
-        named: false,
-        names,
-        accepting: false,
-        sets: 0,
-        acceptance: 0,
+        states: None,
+        start: None,
+        names: None,
+        accepting: None,
     }
 }
 
 // The item whose name stands from `start` up to its colon.
-pub fn item(text: &[u8], start: usize, colon: usize, items: Items) -> ItemRead
+pub fn item(text: &[u8], start: usize, colon: usize, items: Items) -> Result<ItemRead, Refusal>
     requires { (start < colon) × (colon + 1 ≤ length text.now) }
     ensures { ReadsItem text.now start colon items result }
 {
@@ -70,104 +70,97 @@ pub fn item(text: &[u8], start: usize, colon: usize, items: Items) -> ItemRead
     if names_item(text, start, colon, &ACCEPTANCE) {
         return acceptance_item(text, start, colon + 1, items);
     }
-    if !is_small(text[start]) {
-        return refused(Refusal::Form(start), items);
+    if !text[start].is_ascii_lowercase() {
+        return Err(Refusal::Form(start));
     }
-    ItemRead {
-        step: Step::Next(skip(text, colon + 1)),
+    Ok(ItemRead {
         items,
-    }
+        end: skip(text, colon + 1),
+    })
 }
 
 // What stands behind `States:`, whose name stands at `name`; so for the items below.
-fn states_item(text: &[u8], name: usize, at: usize, items: Items) -> ItemRead
+fn states_item(text: &[u8], name: usize, at: usize, items: Items) -> Result<ItemRead, Refusal>
     ensures { ReadsStates text.now name at items result }
 {
-    if items.counted {
-        return refused(Refusal::Item(name), items);
+    if items.states.is_some() {
+        return Err(Refusal::Item(name));
     }
     match next_token(text, at) {
         Token::Number(offset, value, end) => states_given(offset, value, end, items),
-        _ => refused(Refusal::Form(offset(text, at)), items),
+        _ => Err(Refusal::Form(offset(text, at))),
     }
 }
 
-fn states_given(at: usize, value: usize, end: usize, items: Items) -> ItemRead
+fn states_given(at: usize, value: usize, end: usize, items: Items) -> Result<ItemRead, Refusal>
     ensures { StatesGiven at value end items result }
 {
-    if value == 0 {
-        return refused(Refusal::Size(at), items);
+    if value == 0 || value > Automaton::STATES {
+        return Err(Refusal::Size(at));
     }
-    if value > Automaton::STATES {
-        return refused(Refusal::Size(at), items);
-    }
-    let mut more = items;
-    more.counted = true;
-    more.states = value;
-    ItemRead {
-        step: Step::Next(end),
-        items: more,
-    }
+    Ok(ItemRead {
+        items: Items {
+            states: Some(value),
+            ..items
+        },
+        end,
+    })
 }
 
 // Behind `Start:`.
-fn start_item(text: &[u8], name: usize, at: usize, items: Items) -> ItemRead
+fn start_item(text: &[u8], name: usize, at: usize, items: Items) -> Result<ItemRead, Refusal>
     ensures { ReadsStart text.now name at items result }
 {
-    if items.started {
-        return refused(Refusal::Item(name), items);
+    if items.start.is_some() {
+        return Err(Refusal::Item(name));
     }
     match next_token(text, at) {
-        Token::Number(offset, value, end) => {
-            let mut more = items;
-            more.started = true;
-            more.start = value;
-            more.offset = offset;
-            ItemRead {
-                step: Step::Next(end),
-                items: more,
-            }
-        }
-        _ => refused(Refusal::Form(offset(text, at)), items),
+        Token::Number(offset, state, end) => Ok(ItemRead {
+            items: Items {
+                start: Some(Start { state, offset }),
+                ..items
+            },
+            end,
+        }),
+        _ => Err(Refusal::Form(offset(text, at))),
     }
 }
 
 // Behind `AP:`.
-fn ap_item(text: &[u8], name: usize, at: usize, items: Items) -> ItemRead
+fn ap_item(text: &[u8], name: usize, at: usize, items: Items) -> Result<ItemRead, Refusal>
     ensures { ReadsAp text.now name at items result }
 {
-    if items.named {
-        return refused(Refusal::Item(name), items);
+    if items.names.is_some() {
+        return Err(Refusal::Item(name));
     }
-    let read = propositions(text, at);
-    let step = read.step;
-    let given = read.names;
-    let mut more = items;
-    more.named = true;
-    more.names = given;
-    ItemRead { step, items: more }
+    let read = propositions(text, at)?;
+    Ok(ItemRead {
+        items: Items {
+            names: Some(read.names),
+            ..items
+        },
+        end: read.end,
+    })
 }
 
 // Behind `Acceptance:`.
-fn acceptance_item(text: &[u8], name: usize, at: usize, items: Items) -> ItemRead
+fn acceptance_item(text: &[u8], name: usize, at: usize, items: Items) -> Result<ItemRead, Refusal>
     ensures { ReadsAcceptance text.now name at items result }
 {
-    if items.accepting {
-        return refused(Refusal::Item(name), items);
+    if items.accepting.is_some() {
+        return Err(Refusal::Item(name));
     }
-    match acceptance(text, at) {
-        SetsRead::Refused(refusal) => refused(refusal, items),
-        SetsRead::Sets(count, mask, end) => {
-            let mut more = items;
-            more.accepting = true;
-            more.sets = count;
-            more.acceptance = mask;
-            ItemRead {
-                step: Step::Next(end),
-                items: more,
-            }
-        }
-    }
+    let read = acceptance(text, at)?;
+    Ok(ItemRead {
+        items: Items {
+            accepting: Some(Accepting {
+                sets: read.sets,
+                acceptance: read.acceptance,
+            }),
+            ..items
+        },
+        end: read.end,
+    })
 }
 
 // The offset behind words, numbers and quoted texts.
@@ -176,26 +169,8 @@ fn skip(text: &[u8], at: usize) -> usize
     ensures { Skips text.now at result }
 {
     let mut end = at;
-    loop {
-        let next = behind_plain(text, end);
-        if next == end {
-            return end;
-        }
+    while let Some(next) = behind_plain(text, end) {
         end = next;
     }
-}
-
-fn is_small(byte: u8) -> bool
-    ensures { result ≡ between "a" "z" byte }
-{
-    (b'a' <= byte) & (byte <= b'z')
-}
-
-fn refused(refusal: Refusal, items: Items) -> ItemRead
-    ensures { result ≡ record { step = Refused refusal; items = items } }
-{
-    ItemRead {
-        step: Step::Refused(refusal),
-        items,
-    }
+    end
 }

@@ -13,57 +13,49 @@ use hoa_offsets::{behind, offset};
 use hoa_tokens::{Token, next_token};
 use refusals::Refusal;
 
-// A set of marks, and the offset behind it; or why it is refused.
+// A set of marks, and the offset behind it.
 #[derive(Clone, Copy)]
-pub enum MarksRead {
-    Marks(u8, usize),
-    Refused(Refusal),
+pub struct MarksRead {
+    pub marks: u8,
+    pub end: usize,
 }
 
 // The marks that may stand next; a count of sets past the limit is refused.
-pub fn marks(text: &[u8], at: usize, sets: usize) -> MarksRead
+pub fn marks(text: &[u8], at: usize, sets: usize) -> Result<MarksRead, Refusal>
     ensures { MarksAnswer text.now at sets result }
 {
     if sets > Automaton::SETS {
-        return MarksRead::Refused(Refusal::Outside);
+        return Err(Refusal::Outside);
     }
-    let opened = behind(text, at, b'{');
-    if opened == at {
-        return MarksRead::Marks(0, at);
-    }
+    let Some(opened) = behind(text, at, b'{') else {
+        return Ok(MarksRead { marks: 0, end: at });
+    };
     listed(text, opened, sets)
 }
 
 // Behind a `{`.
-fn listed(text: &[u8], at: usize, sets: usize) -> MarksRead
+fn listed(text: &[u8], at: usize, sets: usize) -> Result<MarksRead, Refusal>
     requires { sets ≤ 4 }
     ensures { MarksMean text.now at (marks sets 0 (left text.now at)) result }
 {
     let mut set: u8 = 0;
     let mut i = at;
-    loop {
-        match next_token(text, i) {
-            Token::Number(start, mark, next) => {
-                if mark >= sets {
-                    return MarksRead::Refused(Refusal::Undeclared(start));
-                }
-                set = set | power_of_two(mark) as u8;
-                i = next;
-            }
-            _ => {
-                return closed(text, i, set);
-            }
+    while let Token::Number(start, mark, next) = next_token(text, i) {
+        if mark >= sets {
+            return Err(Refusal::Undeclared(start));
         }
+        set |= power_of_two(mark) as u8;
+        i = next;
     }
+    closed(text, i, set)
 }
 
 // The `}` behind the marks of the set.
-fn closed(text: &[u8], at: usize, set: u8) -> MarksRead
+fn closed(text: &[u8], at: usize, set: u8) -> Result<MarksRead, Refusal>
     ensures { ClosedAnswer text.now at set result }
 {
-    let end = behind(text, at, b'}');
-    if end == at {
-        return MarksRead::Refused(Refusal::Form(offset(text, at)));
-    }
-    MarksRead::Marks(set, end)
+    let Some(end) = behind(text, at, b'}') else {
+        return Err(Refusal::Form(offset(text, at)));
+    };
+    Ok(MarksRead { marks: set, end })
 }

@@ -8,7 +8,7 @@ use native.Mathlib.Decide.{dec_lt, ℕ_discrete}
 use native.Mathlib.Numerals.{add-one}
 use native.Mathlib.Omega.{arith}
 use lib.ListN.{length, get_or, take, drop, set, length-set, length-append, drop_of_length-le, get_or-append, get_or-eq_default}
-use lib.Seq.{slice, paste, paste-suc, length_paste_head, length-paste, length-take-le, drop-cons, get_or-drop, get_or-take, get_or-append-add, length-slice, ext_get_or, get_or-set_same, get_or-set_other}
+use lib.Seq.{slice, paste, length_paste_head, length-paste, length-take-le, drop-cons, get_or-drop, get_or-take, get_or-append-add, length-slice, ext_get_or, get_or-set_same, get_or-set_other}
 use Rattle.meaning.specs.CountingLaws.{each_length, each_at}
 use Rattle.automaton.specs.Rows.{rows_length, rows_at}
 use Rattle.hoa_text.specs.Basics.{same}
@@ -65,10 +65,6 @@ module _ (w : List ℕ) (ws : List (List ℕ)) (lengths bytes : List ℕ) (i n :
   among_passed b e k = compared b e ∙ rw k
 
 -- ---- one more name
-
--- a turn of the loop that copies a name
-pub pasted : (d : List ℕ) (at : ℕ) (w : List ℕ) (i : ℕ) → at + i < length d → i < length w → set (paste d at w i) (at + i) (get_or w i 0) ≡ paste d at w (i + 1)
-pasted d at w i h g = rw (add-one i) (paste-suc d at w i 0 h g)
 
 -- the bytes after the copy: those of the name inside, the former ones outside
 module _ (d : List ℕ) (at : ℕ) (w : List ℕ) (h : at + length w ≤ length d) where

@@ -8,43 +8,42 @@ use native.Mathlib.Omega.{arith}
 use borrow.Author.Tests.{le-leb, lt-leb}
 use lib.ListN.{length, get_or, length-append, get_or-eq_default}
 use lib.Seq.{slice}
+use Rattle.std.proofs.Common.{Result, Ok, Err}
 use Rattle.refusals.specs.declared.Refusal.{Refusal}
 use Rattle.refusals.specs.declared.Refusal.TheVariants.{Size}
 use Rattle.hoa_text.specs.Tokens.{blank, left}
 use Rattle.hoa_text.specs.Grammar.{refuses, then}
-use Rattle.hoa_text.specs.Header.{Items, name_given, naming, names_read, names_item}
+use Rattle.hoa_text.specs.Header.{name_given, naming, names_read, names_item}
 use Rattle.hoa_text.specs.RunOffsets.{digit_blank}
 use Rattle.hoa_text.specs.Names.{last_name}
 use Rattle.hoa_tokens.specs.declared.Token.TheVariants.{Number, Quoted}
 use Rattle.hoa_tokens.specs.Answers.{Reads}
 use Rattle.hoa_names.specs.declared.Names.{Names}
 use Rattle.hoa_names.specs.declared.NamesRead.{NamesRead}
-use Rattle.hoa_names.specs.declared.Step.{Step}
-use Rattle.hoa_names.specs.declared.Step.TheVariants.{Next, Refused}
 use Rattle.hoa_names.specs.Answers.{held, NamesAnswered, ReadsNames}
-use Rattle.hoa_names.specs.Naming.{Read, Answered, Answers, Roomy, Holds, More, MoreAnswered, OneMore, GivenAnswered, Given}
+use Rattle.hoa_names.specs.Naming.{Read, Answers, Roomy, Holds, More, MoreAnswered, OneMore, GivenAnswered, Given}
 use Rattle.hoa_names.proofs.Slots.{held_length, held_lengths, other_name}
 
 -- ---- one name in the text
 
 module _ (s : List ℕ) (i : ℕ) (n : Names) where
-  pub name_read : (o e : ℕ) (r : NamesRead) → Reads s i (Quoted o e) → (w : List ℕ) → w ≡ slice (o + 1) e s → Given w o (e + 1) n r → OneMore s i n r
-  name_read o e r h w q g ws k = go r.names r.step (g ws k)
+  pub name_read : (o e : ℕ) (r : Result NamesRead Refusal) → Reads s i (Quoted o e) → (w : List ℕ) → w ≡ slice (o + 1) e s → Given w o (e + 1) n r → OneMore s i n r
+  name_read o e r h w q g ws k = go r (g ws k)
     where
       token : (k : ℕ) → naming (suc k) ws (left s i) ≡ name_given ws o w (naming k (ws ++ (w ∷ [])) (left s (e + 1)))
       token k = ap (naming (suc k) ws) h.is ∙ ap (λ w. name_given ws o w (naming k (ws ++ (w ∷ [])) (left s (e + 1)))) (sym q)
 
-      go : (m : Names) (a : Step) → GivenAnswered w o (e + 1) ws m a → MoreAnswered s i ws m a
-      go m (Next d) g = record {
+      go : (r : Result NamesRead Refusal) → GivenAnswered w o (e + 1) ws r → MoreAnswered s i ws r
+      go (Ok r) g = record {
         word = w;
         is = λ k. token k ∙ g.is (naming k (ws ++ (w ∷ [])) (left s (e + 1))) ∙ ap (λ d. naming k (ws ++ (w ∷ [])) (left s d)) (sym g.end);
         holds = g.holds;
         short = g.short;
         from = omega (arith, h.lies.from, h.lies.longer, g.end);
         to = omega (arith, h.lies.to, g.end);
-        behind = let m : e ≡ d - 1 = omega (arith, g.end) in subst (λ n. blank (get_or s n 0) ≡ false) m (ap blank h.lies.last);
+        behind = let m : e ≡ r.end - 1 = omega (arith, g.end) in subst (λ n. blank (get_or s n 0) ≡ false) m (ap blank h.lies.last);
       }
-      go m (Refused z) g = λ k. token k ∙ g (naming k (ws ++ (w ∷ [])) (left s (e + 1)))
+      go (Err z) g = λ k. token k ∙ g (naming k (ws ++ (w ∷ [])) (left s (e + 1)))
 
 -- ---- the names so far
 
@@ -99,52 +98,46 @@ module _ (s : List ℕ) (i k : ℕ) (few : k ≤ 4) where
       one_of : k - j ≡ suc (k - (j + 1))
       one_of = omega arith
 
-      module _ (r : NamesRead) (g : OneMore s e n r) where
-        pub so_far_refused : (z : Refusal) → r.step ≡ Refused z → naming k [] (left s i) ≡ refuses z
-        so_far_refused z q =
-            h.is ∙ ap (λ k. naming k h.words (left s e)) one_of
-            ∙ subst (MoreAnswered s e h.words r.names) q (g h.words so_far_holds) (k - (j + 1))
+      pub so_far_refused : (z : Refusal) → OneMore s e n (Err z) → naming k [] (left s i) ≡ refuses z
+      so_far_refused z g = h.is ∙ ap (λ k. naming k h.words (left s e)) one_of ∙ g h.words so_far_holds (k - (j + 1))
 
-        pub so_far_more : (d : ℕ) → r.step ≡ Next d → SoFar s i k r.names d (j + 1)
-        so_far_more d q =
-            let m : More s e h.words r.names d = subst (MoreAnswered s e h.words r.names) q (g h.words so_far_holds) in
-            record {
-              words = h.words ++ (m.word ∷ []);
-              is = h.is ∙ ap (λ k. naming k h.words (left s e)) one_of ∙ m.is (k - (j + 1));
-              holds = m.holds;
-              count = omega (arith, length-append h.words (m.word ∷ []), h.count);
-              short = λ i. go i m.word m.short (ℕ_discrete i (length h.words));
-              most = omega arith;
-              from = omega (arith, h.from, m.from);
-              to = m.to;
-              behind = m.behind;
-            }
-          where
-            go : (i : ℕ) (w : List ℕ) → length w ≤ 16 → Dec (i ≡ length h.words) → length (get_or (h.words ++ (w ∷ [])) i []) ≤ 16
-            go i w l (yes e) = omega (arith, ap length (last_name h.words w i e))
-            go i w l (no e) = omega (arith, ap length (other_name h.words w i e), h.short i)
+      pub so_far_more : (r : NamesRead) → OneMore s e n (Ok r) → SoFar s i k r.names r.end (j + 1)
+      so_far_more r g =
+          let m : More s e h.words r.names r.end = g h.words so_far_holds in
+          record {
+            words = h.words ++ (m.word ∷ []);
+            is = h.is ∙ ap (λ k. naming k h.words (left s e)) one_of ∙ m.is (k - (j + 1));
+            holds = m.holds;
+            count = omega (arith, length-append h.words (m.word ∷ []), h.count);
+            short = λ i. go i m.word m.short (ℕ_discrete i (length h.words));
+            most = omega arith;
+            from = omega (arith, h.from, m.from);
+            to = m.to;
+            behind = m.behind;
+          }
+        where
+          go : (i : ℕ) (w : List ℕ) → length w ≤ 16 → Dec (i ≡ length h.words) → length (get_or (h.words ++ (w ∷ [])) i []) ≤ 16
+          go i w l (yes e) = omega (arith, ap length (last_name h.words w i e))
+          go i w l (no e) = omega (arith, ap length (other_name h.words w i e), h.short i)
 
 -- ---- what stands behind `AP:`
 
 module _ (s : List ℕ) (i : ℕ) where
-  refused_names : (r : NamesRead) (z : Refusal) → r ≡ record { step = Refused z; names = held [] } → ((h : Items) → names_item h (left s i) ≡ refuses z) → ReadsNames s i r
-  refused_names r z e g h = subst (λ r. NamesAnswered s i h r.names r.step) (sym e) (g h, refl)
-
   module _ (o k e : ℕ) (h : Reads s i (Number o k e)) where
     pub count_ends : blank (get_or s (e - 1) 0) ≡ false
     count_ends = digit_blank (get_or s (e - 1) 0) (h.lies.within (e - 1) (omega (arith, h.lies.longer)) (omega (arith, h.lies.longer)))
 
-    pub count_over : 4 < k → (r : NamesRead) → r ≡ record { step = Refused (Size o); names = held [] } → ReadsNames s i r
-    count_over l r q = refused_names r (Size o) q (λ g. ap (names_item g) h.is ∙ rw (lt-leb k 4 l))
+    pub count_over : 4 < k → ReadsNames s i (Err (Size o))
+    count_over l g = ap (names_item g) h.is ∙ rw (lt-leb k 4 l)
 
-    pub count_read : k ≤ 4 → (r : NamesRead) → Answers s e (naming k [] (left s e)) r → ReadsNames s i r
-    count_read l r x g = go r.names r.step x
+    pub count_read : k ≤ 4 → (r : Result NamesRead Refusal) → Answers s e (naming k [] (left s e)) r → ReadsNames s i r
+    count_read l r x g = go r x
       where
         counted : names_item g (left s i) ≡ then (naming k [] (left s e)) (names_read g)
         counted = ap (names_item g) h.is ∙ rw (le-leb k 4 l)
 
-        go : (n : Names) (a : Step) → Answered s e (naming k [] (left s e)) n a → NamesAnswered s i g n a
-        go n (Next d) x = record {
+        go : (r : Result NamesRead Refusal) → Answers s e (naming k [] (left s e)) r → NamesAnswered s i g r
+        go (Ok r) x = record {
           words = x.words;
           is = counted ∙ ap (λ y. then y (names_read g)) x.is;
           holds = x.holds;
@@ -152,4 +145,4 @@ module _ (s : List ℕ) (i : ℕ) where
           to = x.to;
           behind = x.behind;
         }
-        go n (Refused z) x = (counted ∙ ap (λ y. then y (names_read g)) x.0, x.1)
+        go (Err z) x = counted ∙ ap (λ y. then y (names_read g)) x

@@ -1,13 +1,12 @@
 -- DEFINITIONS: the value that holds a list of names (`held`), and what the answer of `propositions` says (`ReadsNames`).
-use Rattle.std.specs.Prelude.{◌≡◌, false, List, [], ℕ, ◌-◌, ◌≤◌, ◌<◌, length, get_or}
+use Rattle.std.specs.Prelude.{◌≡◌, Result, Ok, Err, false, List, [], ℕ, ◌-◌, ◌≤◌, ◌<◌, length, get_or}
 use Rattle.automaton.specs.Value.{table, rows}
+use Rattle.refusals.specs.declared.Refusal.{Refusal}
 use Rattle.hoa_text.specs.Tokens.{blank, left}
 use Rattle.hoa_text.specs.Grammar.{refuses}
 use Rattle.hoa_text.specs.Header.{Items, names_read, names_item}
 use Rattle.hoa_names.specs.declared.Names.{Names}
 use Rattle.hoa_names.specs.declared.NamesRead.{NamesRead}
-use Rattle.hoa_names.specs.declared.Step.{Step}
-use Rattle.hoa_names.specs.declared.Step.TheVariants.{Next, Refused}
 
 -- slots that are not in use are 0
 abbrev pub held : List (List ℕ) → Names
@@ -26,10 +25,10 @@ pub record Named (s : List ℕ) (i : ℕ) (h : Items) (n : Names) (e : ℕ) : Ty
   pub to : e ≤ length s
   pub behind : blank (get_or s (e - 1) 0) ≡ false
 
-abbrev pub NamesAnswered : List ℕ → ℕ → Items → Names → Step → Type 0
-NamesAnswered s i h n (Next e) = Named s i h n e
-NamesAnswered s i h n (Refused r) = (names_item h (left s i) ≡ refuses r) × (n ≡ held [])
+abbrev pub NamesAnswered : List ℕ → ℕ → Items → Result NamesRead Refusal → Type 0
+NamesAnswered s i h (Ok r) = Named s i h r.names r.end
+NamesAnswered s i h (Err z) = names_item h (left s i) ≡ refuses z
 
 -- whatever the items before
-abbrev pub ReadsNames : List ℕ → ℕ → NamesRead → Type 0
-ReadsNames s i r = (h : Items) → NamesAnswered s i h r.names r.step
+abbrev pub ReadsNames : List ℕ → ℕ → Result NamesRead Refusal → Type 0
+ReadsNames s i r = (h : Items) → NamesAnswered s i h r

@@ -1,12 +1,11 @@
 -- Contracts of the functions that read the names, one by one.
-use Rattle.std.specs.Prelude.{◌≡◌, false, List, [], ◌∷◌, ◌++◌, ℕ, suc, ◌-◌, ◌≤◌, ◌<◌, length, get_or}
+use Rattle.std.specs.Prelude.{◌≡◌, Result, Ok, Err, false, List, [], ◌∷◌, ◌++◌, ℕ, suc, ◌-◌, ◌≤◌, ◌<◌, length, get_or}
+use Rattle.refusals.specs.declared.Refusal.{Refusal}
 use Rattle.hoa_text.specs.Tokens.{blank, left}
 use Rattle.hoa_text.specs.Grammar.{gives, refuses, Parsed}
 use Rattle.hoa_text.specs.Header.{name_given, naming}
 use Rattle.hoa_names.specs.declared.Names.{Names}
 use Rattle.hoa_names.specs.declared.NamesRead.{NamesRead}
-use Rattle.hoa_names.specs.declared.Step.{Step}
-use Rattle.hoa_names.specs.declared.Step.TheVariants.{Next, Refused}
 use Rattle.hoa_names.specs.Answers.{held}
 
 -- x gives the names that n holds, and e is directly behind the last token of them
@@ -18,12 +17,9 @@ pub record Read (s : List ℕ) (i : ℕ) (x : Parsed (List (List ℕ))) (n : Nam
   pub to : e ≤ length s
   pub behind : blank (get_or s (e - 1) 0) ≡ false
 
-abbrev pub Answered : List ℕ → ℕ → Parsed (List (List ℕ)) → Names → Step → Type 0
-Answered s i x n (Next e) = Read s i x n e
-Answered s i x n (Refused r) = (x ≡ refuses r) × (n ≡ held [])
-
-abbrev pub Answers : List ℕ → ℕ → Parsed (List (List ℕ)) → NamesRead → Type 0
-Answers s i x r = Answered s i x r.names r.step
+abbrev pub Answers : List ℕ → ℕ → Parsed (List (List ℕ)) → Result NamesRead Refusal → Type 0
+Answers s i x (Ok r) = Read s i x r.names r.end
+Answers s i x (Err z) = x ≡ refuses z
 
 -- no name is longer than its slot
 abbrev pub Short : List ℕ → Type 0
@@ -55,12 +51,12 @@ pub record More (s : List ℕ) (i : ℕ) (ws : List (List ℕ)) (n : Names) (e :
   pub to : e ≤ length s
   pub behind : blank (get_or s (e - 1) 0) ≡ false
 
-abbrev pub MoreAnswered : List ℕ → ℕ → List (List ℕ) → Names → Step → Type 0
-MoreAnswered s i ws n (Next e) = More s i ws n e
-MoreAnswered s i ws n (Refused r) = (k : ℕ) → naming (suc k) ws (left s i) ≡ refuses r
+abbrev pub MoreAnswered : List ℕ → ℕ → List (List ℕ) → Result NamesRead Refusal → Type 0
+MoreAnswered s i ws (Ok r) = More s i ws r.names r.end
+MoreAnswered s i ws (Err z) = (k : ℕ) → naming (suc k) ws (left s i) ≡ refuses z
 
-abbrev pub OneMore : List ℕ → ℕ → Names → NamesRead → Type 0
-OneMore s i n r = (ws : List (List ℕ)) → Holds ws n → MoreAnswered s i ws r.names r.step
+abbrev pub OneMore : List ℕ → ℕ → Names → Result NamesRead Refusal → Type 0
+OneMore s i n r = (ws : List (List ℕ)) → Holds ws n → MoreAnswered s i ws r
 
 -- the name w, with its quote at o, after the names ws
 pub record Taken (w : List ℕ) (o next : ℕ) (ws : List (List ℕ)) (n : Names) (e : ℕ) : Type 0 where
@@ -69,12 +65,12 @@ pub record Taken (w : List ℕ) (o next : ℕ) (ws : List (List ℕ)) (n : Names
   pub short : length w ≤ 16
   pub end : e ≡ next
 
-abbrev pub GivenAnswered : List ℕ → ℕ → ℕ → List (List ℕ) → Names → Step → Type 0
-GivenAnswered w o next ws n (Next e) = Taken w o next ws n e
-GivenAnswered w o next ws n (Refused r) = (x : Parsed (List (List ℕ))) → name_given ws o w x ≡ refuses r
+abbrev pub GivenAnswered : List ℕ → ℕ → ℕ → List (List ℕ) → Result NamesRead Refusal → Type 0
+GivenAnswered w o next ws (Ok r) = Taken w o next ws r.names r.end
+GivenAnswered w o next ws (Err z) = (x : Parsed (List (List ℕ))) → name_given ws o w x ≡ refuses z
 
-abbrev pub Given : List ℕ → ℕ → ℕ → Names → NamesRead → Type 0
-Given w o next n r = (ws : List (List ℕ)) → Holds ws n → GivenAnswered w o next ws r.names r.step
+abbrev pub Given : List ℕ → ℕ → ℕ → Names → Result NamesRead Refusal → Type 0
+Given w o next n r = (ws : List (List ℕ)) → Holds ws n → GivenAnswered w o next ws r
 
 abbrev pub Added : Names → List ℕ → Names → Type 0
 Added n w r = (ws : List (List ℕ)) → Holds ws n → r ≡ held (ws ++ (w ∷ []))

@@ -13,11 +13,7 @@ fn main(rt: HostRuntime) {
         return;
     }
     let mut text = [0u8; TEXT];
-    let held = from_input(rt, &mut text);
-    let given = held.given;
-    if !given.accepted {
-        return;
+    if let Some(automaton) = from_input(rt, &mut text).given {
+        let _ = print_automaton(rt, automaton);
     }
-    let automaton = given.automaton;
-    print_automaton(rt, automaton);
 }

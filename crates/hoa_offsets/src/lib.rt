@@ -8,13 +8,13 @@ ghost use Rattle.hoa_offsets.specs.Behind.{Behind};
 
 use hoa_tokens::{Token, next_token};
 
-// The offset behind a sign of one byte; `at` where that sign does not stand first.
-pub fn behind(text: &[u8], at: usize, sign: u8) -> usize
+// The offset behind a sign of one byte, where that sign stands first.
+pub fn behind(text: &[u8], at: usize, sign: u8) -> Option<usize>
     ensures { Behind text.now at sign result }
 {
     match next_token(text, at) {
-        Token::Sign(offset, byte) => if byte == sign { offset + 1 } else { at },
-        _ => at,
+        Token::Sign(offset, byte) => if byte == sign { Some(offset + 1) } else { None },
+        _ => None,
     }
 }
 

@@ -5,25 +5,31 @@
 ghost use Rattle.std.specs.Prelude.{◌≤◌};
 
 use automaton::Automaton;
-use clause_sizes::{Sized, Target, measure};
+use clause_sizes::{Target, measure};
 use console_clauses::print_file;
 use console_decoded::decode_input;
-use console_input::{Held, TEXT, from_argument, from_input, number};
+use console_input::{TEXT, from_argument, from_input, number};
 use console_lines::refuse;
-use console_numerals::Number;
 use console_places::Place;
 use console_places::part::first;
-use console_profiles::{Profile, profile_of};
-use console_read::{argument, argument_count, buffer};
+use console_profiles::{Unnamed, profile_of};
+use console_read::{PATH, argument, argument_count};
 use hoa_words::same;
 use refusals::Refusal;
 
-// What the arguments name from N on.
+// What is printed for the profile: the clause file, or what standard input decodes to.
+#[derive(Clone, Copy)]
+enum Job {
+    Clauses,
+    Decode,
+}
+
+// What the arguments name from N on. Of a mask with a yes past the sets of marks of any automaton there is no target.
 #[derive(Clone, Copy)]
 struct Arguments {
     states: usize,
     sets: usize,
-    profile: Profile,
+    target: Option<Target>,
 }
 
 fn main(rt: HostRuntime) {
@@ -31,119 +37,94 @@ fn main(rt: HostRuntime) {
     if argument_count(rt) < 2 {
         return usage(rt);
     }
-    let mut word = buffer();
-    let got = argument(rt, 1, &mut word);
-    let job = first(&word, got.length);
+    let mut word = [0u8; PATH];
+    let length = argument(rt, 1, &mut word).unwrap_or(0);
+    let job = first(&word, length);
     if same(b"clauses", job) & (argument_count(rt) == 7) {
-        return run(rt, named(rt, 2), false);
+        return run(rt, named(rt, 2), Job::Clauses);
     }
     if same(b"decode", job) & (argument_count(rt) == 8) {
-        return run(rt, named(rt, 3), true);
+        return run(rt, named(rt, 3), Job::Decode);
     }
     usage(rt);
 }
 
 // N, M, LIST, ACCEPTANCE and MARKS, from argument `at` on.
-fn named(rt: &HostRuntime, at: usize) -> Arguments
+fn named(rt: &HostRuntime, at: usize) -> Option<Arguments>
     requires { at ≤ 3 }
 {
-    let mut word = buffer();
-    let read = number(rt, at, &mut word);
-    let states = read.number;
-    let Number::Of(n) = states else {
-        return none();
+    let mut word = [0u8; PATH];
+    let states = number(rt, at, &mut word).number? as usize;
+    let sets = number(rt, at + 1, &mut word).number? as usize;
+    let target = match words(rt, at + 2, states, sets) {
+        Ok(target) => Some(target),
+        Err(Unnamed::Past) => None,
+        Err(Unnamed::Unknown) => return None,
     };
-    let read = number(rt, at + 1, &mut word);
-    let sets = read.number;
-    let Number::Of(m) = sets else {
-        return none();
-    };
-    Arguments {
-        states: n as usize,
-        sets: m as usize,
-        profile: words(rt, at + 2, n as usize, m as usize),
-    }
+    Some(Arguments {
+        states,
+        sets,
+        target,
+    })
 }
 
-fn none() -> Arguments {
-    Arguments {
-        states: 0,
-        sets: 0,
-        profile: Profile::None,
-    }
-}
-
-fn words(rt: &HostRuntime, at: usize, states: usize, sets: usize) -> Profile
+fn words(rt: &HostRuntime, at: usize, states: usize, sets: usize) -> Result<Target, Unnamed>
     requires { at ≤ 5 }
 {
-    let mut list = buffer();
-    let listed = argument(rt, at, &mut list);
-    let mut acceptance = buffer();
-    let accepted = argument(rt, at + 1, &mut acceptance);
-    let mut marks = buffer();
-    let marked = argument(rt, at + 2, &mut marks);
+    let mut list = [0u8; PATH];
+    let listed = argument(rt, at, &mut list).unwrap_or(0);
+    let mut acceptance = [0u8; PATH];
+    let accepted = argument(rt, at + 1, &mut acceptance).unwrap_or(0);
+    let mut marks = [0u8; PATH];
+    let marked = argument(rt, at + 2, &mut marks).unwrap_or(0);
     profile_of(
-        first(&list, listed.length),
-        first(&acceptance, accepted.length),
-        first(&marks, marked.length),
+        first(&list, listed),
+        first(&acceptance, accepted),
+        first(&marks, marked),
         states,
         sets,
     )
 }
 
-// The clause file, or what standard input decodes to.
-fn run(rt: &HostRuntime, named: Arguments, decoding: bool) {
-    let profile = named.profile;
-    if !is_named(profile) {
+fn run(rt: &HostRuntime, named: Option<Arguments>, job: Job) {
+    let Some(named) = named else {
         return usage(rt);
-    }
+    };
     let mut text = [0u8; TEXT];
-    let held = reference(rt, decoding, &mut text);
-    let given = held.given;
-    if !given.accepted {
+    let Some(reference) = reference(rt, job, &mut text) else {
         return;
-    }
-    let reference = given.automaton;
-    match profile {
-        Profile::Of(target) => answer(rt, reference, target, decoding),
-        _ => refuse_past(rt, reference, named.states, named.sets),
-    }
-}
-
-fn reference(rt: &HostRuntime, decoding: bool, text: &mut [u8]) -> Held {
-    if decoding {
-        return from_argument(rt, 2, text);
-    }
-    from_input(rt, text)
-}
-
-fn answer(rt: &HostRuntime, reference: Automaton, target: Target, decoding: bool) {
-    if decoding {
-        decode_input(rt, reference, target, b"hoa_profile");
-    } else {
-        print_file(rt, reference, target, b"hoa_profile");
+    };
+    match named.target {
+        Some(target) => answer(rt, reference, target, job),
+        None => refuse_past(rt, reference, named.states, named.sets),
     }
 }
 
-fn is_named(profile: Profile) -> bool {
-    match profile {
-        Profile::None => false,
-        _ => true,
+fn reference(rt: &HostRuntime, job: Job, text: &mut [u8]) -> Option<Automaton> {
+    match job {
+        Job::Clauses => from_input(rt, text).given,
+        Job::Decode => from_argument(rt, 2, text).given,
+    }
+}
+
+fn answer(rt: &HostRuntime, reference: Automaton, target: Target, job: Job) {
+    match job {
+        Job::Clauses => {
+            print_file(rt, reference, target, b"hoa_profile");
+        }
+        Job::Decode => {
+            decode_input(rt, reference, target, b"hoa_profile");
+        }
     }
 }
 
 // A mask that no number of sets has room for: 4, after what is said of the other sizes.
 fn refuse_past(rt: &HostRuntime, reference: Automaton, states: usize, sets: usize) {
-    let measured = measure(reference, Target::every(states, sets));
-    let answer = measured.answer;
-    match answer {
-        Sized::Refused(x) => {
-            refuse(rt, x, b"hoa_profile", Place::first());
-        }
-        Sized::Of(_) => {
-            refuse(rt, Refusal::Outside, b"hoa_profile", Place::first());
-        }
-    }
+    let x = match measure(reference, Target::every(states, sets)) {
+        Ok(_) => Refusal::Outside,
+        Err(x) => x,
+    };
+    refuse(rt, x, b"hoa_profile", Place::first());
 }
 
 fn usage(rt: &HostRuntime) {

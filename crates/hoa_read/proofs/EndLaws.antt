@@ -2,6 +2,7 @@
 use mathlib.Core.Path.{◌≡◌, refl, sym, ap, ◌∙◌, subst}
 use mathlib.Core.Bool.{Bool, true, false, not, cond}
 use mathlib.Core.List.{List}
+use Rattle.std.proofs.Common.{Option as Given, Some, None, Result, Ok, Err}
 use mathlib.Core.Option.{Option, none, some}
 use Prim.Native.Nat.{ℕ, ◌^◌, ◌≤◌, ◌<◌, min}
 use native.Mathlib.Omega.{arith}
@@ -28,9 +29,7 @@ use Rattle.hoa_body.specs.declared.Table as Code
 use Rattle.hoa_body.specs.Answers.{Bounded, Opens, Holds}
 use Rattle.hoa_body.proofs.OpenedLaws.{states_are, letters_are}
 use Rattle.hoa_body.proofs.SetLaws.{first_found, first_lacks}
-use Rattle.hoa_read.specs.declared.Reading.{Reading}
 use Rattle.hoa_read.specs.declared.missing.Gap.{Gap}
-use Rattle.hoa_read.specs.declared.missing.Gap.TheVariants.{At, Nowhere}
 use Rattle.hoa_read.specs.Missing.{gap_told, GapAnswer, WholeAnswer, EndedAnswer}
 use Rattle.hoa_read.specs.Told.{told}
 
@@ -84,10 +83,10 @@ module _ (given : List ℕ) (n L : ℕ) (most : L ≤ 16) where
     unfolding row
     no_row_lem b = none_first h.states row (λ p g. full p (omega arith) (b p (omega arith)))
 
-  pub gap_at : (q r : ℕ) → q < n → Before given L q → Lowest (bit_xor (get_or given q 0) 65535) L r → r < L → GapAnswer given n L (At q r)
+  pub gap_at : (q r : ℕ) → q < n → Before given L q → Lowest (bit_xor (get_or given q 0) 65535) L r → r < L → GapAnswer given n L (Some (record { state = q; letter = r }))
   gap_at q r hq b low l h t en eL is = first_row h t en eL is q r hq b low l
 
-  pub gap_nowhere : (q : ℕ) → n ≤ q → Before given L q → GapAnswer given n L Nowhere
+  pub gap_nowhere : (q : ℕ) → n ≤ q → Before given L q → GapAnswer given n L None
   gap_nowhere q l b h t en eL is = no_row_lem h t en eL is (λ p g. b p (omega arith))
 
 -- ---- after the whole text
@@ -106,11 +105,11 @@ module _ (a : Automaton) (u : Code.Table) (o : ℕ) (bounded : Bounded a) (q : �
     all_named : a.states ≤ q → no_body h t o ≡ none
     all_named l = none_missing u.named h.states q (omega (arith, count, bounded.states_le)) lowest t.named (Body o) (λ p k. g.named p (omega (arith, count, bounded.states_le))) (omega (arith, count))
 
-  pub whole_no_body : q < a.states → (r : Reading) → r ≡ told (refuses (Body o q)) → WholeAnswer a u o r
-  whole_no_body l r e h t opens g = e ∙ sym (ap (λ x. told (option x (option (no_edge h t) (gives (made h t)) refuses) refuses)) (unnamed h t opens g l))
+  pub whole_no_body : q < a.states → WholeAnswer a u o (Err (Body o q))
+  whole_no_body l h t opens g = sym (ap (λ x. told (option x (option (no_edge h t) (gives (made h t)) refuses) refuses)) (unnamed h t opens g l))
 
   module _ (L : ℕ) (count : L ≡ 2 ^ min a.propositions 4) (all : a.states ≤ q) where
-    judged : (x : Gap) → GapAnswer u.given a.states L x → (h : Header) (t : Table) → Opens a h → Holds h t u
+    judged : (x : Given Gap) → GapAnswer u.given a.states L x → (h : Header) (t : Table) → Opens a h → Holds h t u
         → whole h t o ≡ option (gap_told x) (gives (made h t)) refuses
     judged x gap h t opens g =
         let eL : letters h ≡ L = letters_are a h opens L bounded count in
@@ -118,12 +117,11 @@ module _ (a : Automaton) (u : Code.Table) (o : ℕ) (bounded : Bounded a) (q : �
         ∙ ap (λ y. option y (gives (made h t)) refuses)
         (gap h t (states_are a h opens) eL (λ q l hq hl. g.given q l (omega (arith, bounded.states_le)) (omega (arith, eL))))
 
-    pub whole_gap : (p l : ℕ) → GapAnswer u.given a.states L (At p l) → (r : Reading) → r ≡ told (refuses (NoEdge p l)) → WholeAnswer a u o r
-    whole_gap p l gap r e h t opens g = e ∙ sym (ap told (judged (At p l) gap h t opens g))
+    pub whole_gap : (x : Gap) → GapAnswer u.given a.states L (Some x) → WholeAnswer a u o (Err (NoEdge x.state x.letter))
+    whole_gap x gap h t opens g = sym (ap told (judged (Some x) gap h t opens g))
 
-    pub whole_made : GapAnswer u.given a.states L Nowhere → (r : Reading) (b : Automaton) → ((h : Header) (t : Table) → Opens a h → Holds h t u → b ≡ made h t)
-        → r ≡ told (gives b) → WholeAnswer a u o r
-    whole_made gap r b is e h t opens g = e ∙ ap (λ b. told (gives b)) (is h t opens g) ∙ sym (ap told (judged Nowhere gap h t opens g))
+    pub whole_made : GapAnswer u.given a.states L None → (b : Automaton) → ((h : Header) (t : Table) → Opens a h → Holds h t u → b ≡ made h t) → WholeAnswer a u o (Ok b)
+    whole_made gap b is h t opens g = ap (λ b. told (gives b)) (is h t opens g) ∙ sym (ap told (judged None gap h t opens g))
 
 -- ---- the value
 
@@ -154,16 +152,15 @@ made_is a u h t o g = λ i. record {
 -- ---- behind `--END--`
 
 module _ (s : List ℕ) (i : ℕ) (a : Automaton) (u : Code.Table) where
-  pub ended_over : (o : ℕ) → Reads s i (Over o) → (r : Reading) → WholeAnswer a u o r → EndedAnswer s i a u r
+  pub ended_over : (o : ℕ) → Reads s i (Over o) → (r : Result Automaton Refusal) → WholeAnswer a u o r → EndedAnswer s i a u r
   ended_over o k r x h t opens g = x h t opens g ∙ sym (ap (λ u. told (ended h t u)) k.is)
 
-  pub ended_broken : (o p : ℕ) → Reads s i (Broken o p) → (r : Reading) → r ≡ told (refuses (Form o)) → EndedAnswer s i a u r
-  ended_broken o p k r e h t opens g = e ∙ sym (ap (λ u. told (ended h t u)) k.is)
+  pub ended_broken : (o p : ℕ) → Reads s i (Broken o p) → EndedAnswer s i a u (Err (Form o))
+  ended_broken o p k h t opens g = sym (ap (λ u. told (ended h t u)) k.is)
 
-  pub ended_token : (x : Token) → Reads s i x → ((o : ℕ) → x ≡ Over o → ⊥) → ((o p : ℕ) → x ≡ Broken o p → ⊥) → (o : ℕ) → o ≡ at (left s i)
-      → (r : Reading) → r ≡ told (refuses (Form o)) → EndedAnswer s i a u r
-  ended_token x k over broken o p r e h t opens g =
-      e ∙ ap (λ o. told (refuses (Form o))) (p ∙ ap at k.is) ∙ sym (ap (λ u. told (ended h t u)) k.is ∙ ap told (go x over broken))
+  pub ended_token : (x : Token) → Reads s i x → ((o : ℕ) → x ≡ Over o → ⊥) → ((o p : ℕ) → x ≡ Broken o p → ⊥) → (o : ℕ) → o ≡ at (left s i) → EndedAnswer s i a u (Err (Form o))
+  ended_token x k over broken o p h t opens g =
+      ap (λ o. told (refuses (Form o))) (p ∙ ap at k.is) ∙ sym (ap (λ u. told (ended h t u)) k.is ∙ ap told (go x over broken))
     where
       go : (x : Token) → ((o : ℕ) → x ≡ Over o → ⊥) → ((o p : ℕ) → x ≡ Broken o p → ⊥) → ended h t (stream s x) ≡ refuses (Form (at (stream s x)))
       go (Word o e) over broken = refl

@@ -16,32 +16,30 @@ use Rattle.hoa_text.specs.Reading.{ended, reading, read}
 use Rattle.hoa_text.specs.HeaderFits.{HeaderFits}
 use Rattle.hoa_header.specs.Answers.{Opened}
 use Rattle.hoa_header.specs.Fits.{opened_fits}
-use Rattle.hoa_body.specs.declared.Answer.TheVariants as Body
-use Rattle.hoa_body.specs.declared.Table as Code
-use Rattle.hoa_body.specs.Answers.{Bounded, Opens, Answered}
-use Rattle.hoa_read.specs.declared.Reading.{Reading}
+use Rattle.std.proofs.Common.{Result as Reading, Ok, Err}
+use Rattle.hoa_body.specs.declared.BodyRead.{BodyRead}
+use Rattle.hoa_body.specs.Answers.{Bounded, Opens, BodyOf}
 use Rattle.hoa_read.specs.Missing.{EndedAnswer}
-use Rattle.hoa_read.specs.Told.{told, returned, fault, Tells}
+use Rattle.hoa_read.specs.Told.{told, returned, fault}
 
 -- ---- document 01's number and values
 
-pub returned_told : (x : Result Automaton) → returned (told x).answer ≡ fault x
+pub returned_told : (x : Result Automaton) → returned (told x) ≡ fault x
 returned_told (gives a) = refl
 returned_told (refuses f) = refl
 
-pub tells : (x : Result Automaton) (r : Reading) → r ≡ told x → Tells x r
-tells x r e = record { is = e; number = ap (λ (r : Reading). returned r.answer) e ∙ returned_told x }
+pub told_number : (x : Result Automaton) (r : Reading Automaton Refusal) → r ≡ told x → returned r ≡ fault x
+told_number x r e = ap returned e ∙ returned_told x
 
 -- ---- the body
 
 -- what is read of it, then what is judged of the whole text
-module _ (s : List ℕ) (i : ℕ) (a : Automaton) (u : Code.Table) where
-  pub body_ended : (e : ℕ) → ((h : Header) → Opens a h → Answered h s (body h (left s i)) u (Body.End e)) → (r : Reading) → EndedAnswer s e a u r
+module _ (s : List ℕ) (i : ℕ) (a : Automaton) where
+  pub body_ended : (x : BodyRead) → BodyOf s i a (Ok x) → (r : Reading Automaton Refusal) → EndedAnswer s x.end a x.table r
       → (h : Header) → Opens a h → r ≡ told (then (body h (left s i)) (ended h))
-  body_ended e x r y h o = let z = x h o in y h z.table o z.holds ∙ ap (λ w. told (then w (ended h))) (sym z.is)
+  body_ended x g r y h o = let z = g h o in y h z.table o z.holds ∙ ap (λ w. told (then w (ended h))) (sym z.is)
 
-  pub body_refused : (f : Refusal) → ((h : Header) → Opens a h → Answered h s (body h (left s i)) u (Body.Refused f))
-      → (h : Header) → Opens a h → told (refuses f) ≡ told (then (body h (left s i)) (ended h))
+  pub body_refused : (f : Refusal) → BodyOf s i a (Err f) → (h : Header) → Opens a h → Err f ≡ told (then (body h (left s i)) (ended h))
   body_refused f x h o = ap (λ w. told (then w (ended h))) (sym (x h o))
 
 -- ---- the text
@@ -54,7 +52,7 @@ opened_bounded a h f o = record {
 }
 
 module _ (s : List ℕ) where
-  pub read_long : 65536 < length s → told (refuses (Size 65536)) ≡ told (read s)
+  pub read_long : 65536 < length s → Err (Size 65536) ≡ told (read s)
   unfolding read
   read_long h = rw (lt-leb (length s) 65536 h)
 
@@ -63,12 +61,12 @@ module _ (s : List ℕ) where
     unfolding read
     short = rw (le-leb (length s) 65536 h)
 
-    pub read_refused : (x : Refusal) → header (tokens s) ≡ refuses x → told (refuses x) ≡ told (read s)
+    pub read_refused : (x : Refusal) → header (tokens s) ≡ refuses x → Err x ≡ told (read s)
     read_refused x e = ap told (ap (λ y. then y (λ h u. then (body h u) (ended h))) (sym e) ∙ short)
 
     module _ (a : Automaton) (e : ℕ) (o : Opened s (header (tokens s)) a e) where
       pub read_bounded : Bounded a
       read_bounded = opened_bounded a o.header (opened_fits s a e o) o.automaton
 
-      pub read_opened : (r : Reading) → ((h : Header) → Opens a h → r ≡ told (then (body h (left s e)) (ended h))) → r ≡ told (read s)
+      pub read_opened : (r : Reading Automaton Refusal) → ((h : Header) → Opens a h → r ≡ told (then (body h (left s e)) (ended h))) → r ≡ told (read s)
       read_opened r k = k o.header o.automaton ∙ ap told (ap (λ y. then y (λ h u. then (body h u) (ended h))) (sym o.is) ∙ short)

@@ -6,25 +6,23 @@ use automaton::Automaton;
 use bits::sets::lowest;
 use hoa_formulas::ALL;
 
-// The lowest state, and its lowest letter, without an edge.
+// A state, and a letter for which it has no edge.
 #[derive(Clone, Copy)]
-pub enum Gap {
-    At(usize, usize),
-    Nowhere,
+pub struct Gap {
+    pub state: usize,
+    pub letter: usize,
 }
 
-// `given` has for each state the letters with an edge.
-pub fn first_gap(given: &[u16; Automaton::STATES], states: usize, letters: usize) -> Gap
+// The lowest state, and its lowest letter, without an edge; `given` has for each state the letters with an edge.
+pub fn first_gap(given: &[u16; Automaton::STATES], states: usize, letters: usize) -> Option<Gap>
     requires { (states ≤ 16) × (letters ≤ 16) }
     ensures { GapAnswer given.now states letters result }
 {
-    let mut state: usize = 0;
-    while state < states {
+    for state in 0..states {
         let letter = lowest(given[state] ^ ALL, letters);
         if letter < letters {
-            return Gap::At(state, letter);
+            return Some(Gap { state, letter });
         }
-        state += 1;
     }
-    Gap::Nowhere
+    None
 }

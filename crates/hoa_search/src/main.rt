@@ -3,13 +3,14 @@
 
 use automaton::Automaton;
 use clause_sizes::Target;
-use compare::Comparison;
+use compare::{LOOP, PREFIX};
+use console_answers::Told;
 use console_input::{TEXT, from_argument};
 use console_lines::{print_line, refuse};
 use console_places::Place;
 use console_places::part::first;
-use console_print::{Printed, print, usage};
-use console_read::{argument, argument_count, buffer, open, read_some};
+use console_print::{print, usage};
+use console_read::{PATH, argument, argument_count, open, read_some};
 use console_report::lines::{LINE, ask};
 use console_results::print_automaton;
 use decode::Decoded;
@@ -25,141 +26,95 @@ fn main(rt: HostRuntime) {
         return;
     }
     let mut text = [0u8; TEXT];
-    let held = from_argument(rt, 1, &mut text);
-    let given = held.given;
-    if !given.accepted {
+    let Some(reference) = from_argument(rt, 1, &mut text).given else {
         return;
-    }
-    let reference = given.automaton;
-    let replayed = replay(
-        rt,
-        taken(rt, search::start(reference), b"hoa_search", Place::first()),
-    );
-    if replayed.whole {
-        let search = replayed.search;
-        print_search(rt, search);
-    }
-}
-
-// The search after the answers so far. Where one of them was not taken, it is not whole, and standard error has the reason.
-#[derive(Clone, Copy)]
-struct Replayed {
-    whole: bool,
-    search: Search,
-}
-
-fn replay(rt: &HostRuntime, start: Replayed) -> Replayed {
-    let count = argument_count(rt);
-    let mut replayed = start;
-    let mut i: usize = 2;
-    while i < count {
-        if !replayed.whole {
-            return replayed;
+    };
+    match search::start(reference) {
+        Ok(start) => {
+            if let Some(search) = replay(rt, start) {
+                print_search(rt, search);
+            }
         }
-        let search = replayed.search;
-        replayed = take_argument(rt, search, i);
-        i += 1;
+        Err(x) => {
+            refuse(rt, x, b"hoa_search", Place::first());
+        }
     }
-    replayed
 }
 
-fn take_argument(rt: &HostRuntime, search: Search, i: usize) -> Replayed {
-    let mut path = buffer();
-    let got = argument(rt, i, &mut path);
-    if !got.whole {
-        return stopped(search);
+// The search after the answers so far. Where one of them is not taken, here and below, there is none, and standard error has the reason.
+fn replay(rt: &HostRuntime, start: Search) -> Option<Search> {
+    let mut search = start;
+    for i in 2..argument_count(rt) {
+        search = take_argument(rt, search, i)?;
     }
-    take_file(rt, search, first(&path, got.length))
+    Some(search)
 }
 
-fn take_file(rt: &HostRuntime, search: Search, path: &[u8]) -> Replayed {
-    match open(rt, path) {
-        Some(mut file) => take_text(rt, search, &mut file, path),
-        None => stopped(search),
-    }
+fn take_argument(rt: &HostRuntime, search: Search, i: usize) -> Option<Search> {
+    let mut path = [0u8; PATH];
+    let length = argument(rt, i, &mut path)?;
+    let path = first(&path, length);
+    let mut file = open(rt, path)?;
+    take_text(rt, search, &mut file, path)
 }
 
 // A finished search no longer looks at an answer.
-fn take_text(rt: &HostRuntime, search: Search, file: &mut File, path: &[u8]) -> Replayed {
+fn take_text(rt: &HostRuntime, search: Search, file: &mut File, path: &[u8]) -> Option<Search> {
     if search.finished {
-        return only_read(rt, search, file, path);
+        let mut piece = [0u8; PATH];
+        read_some(rt, file, path, &mut piece)?;
+        return Some(search);
     }
-    let mut prefix = [0u8; Comparison::PREFIX];
-    let mut cycle = [0u8; Comparison::LOOP];
+    let mut prefix = [0u8; PREFIX];
+    let mut cycle = [0u8; LOOP];
     let reference = search.reference;
     let target = Target::every(search.n, search.m);
-    let told = console_answers::read(rt, file, path, reference, target, &mut prefix, &mut cycle);
-    if !told.whole {
-        return stopped(search);
-    }
-    let decoded = told.decoded;
-    let place = told.place;
-    answer(rt, search, decoded, path, place)
-}
-
-fn only_read(rt: &HostRuntime, search: Search, file: &mut File, path: &[u8]) -> Replayed {
-    let mut piece = buffer();
-    let got = read_some(rt, file, path, &mut piece);
-    Replayed {
-        whole: got.whole,
-        search,
-    }
-}
-
-fn answer(
-    rt: &HostRuntime,
-    search: Search,
-    decoded: Decoded,
-    path: &[u8],
-    place: Place,
-) -> Replayed {
-    let answer = decoded.answer;
-    match answer {
-        decode::Answer::Table => found(rt, search, decoded.table, path),
-        decode::Answer::None => taken(rt, search::none(search), path, place),
-        decode::Answer::Unknown => taken(rt, search::unknown(search), path, place),
-        decode::Answer::Refused(x) => turned_down(rt, search, x, path, place),
-    }
-}
-
-fn found(rt: &HostRuntime, search: Search, table: Automaton, path: &[u8]) -> Replayed {
-    let mut prefix = [0u8; Comparison::PREFIX];
-    let mut cycle = [0u8; Comparison::LOOP];
-    taken(
+    let told = console_answers::read(
         rt,
-        search::found(search, table, &mut prefix, &mut cycle),
+        file,
         path,
-        Place::first(),
-    )
+        reference,
+        target,
+        &mut prefix,
+        &mut cycle,
+    ).ok()?;
+    answer(rt, search, told, path)
 }
 
-fn taken(rt: &HostRuntime, reply: Reply, path: &[u8], place: Place) -> Replayed {
-    let search = reply.search;
-    let answer = reply.answer;
-    match answer {
-        search::Answer::Refused(x) => turned_down(rt, search, x, path, place),
-        _ => Replayed {
-            whole: true,
-            search,
-        },
+fn answer(rt: &HostRuntime, search: Search, told: Told, path: &[u8]) -> Option<Search> {
+    let place = told.place;
+    match told.decoded {
+        Ok(Decoded::Table(table)) => found(rt, search, table, path),
+        Ok(Decoded::None) => taken(rt, search, search::none(search), path, place),
+        Ok(Decoded::Unknown) => taken(rt, search, search::unknown(search), path, place),
+        Err(x) => {
+            refuse(rt, x, path, place);
+            None
+        }
     }
 }
 
-fn turned_down(
-    rt: &HostRuntime,
-    search: Search,
-    x: Refusal,
-    path: &[u8],
-    place: Place,
-) -> Replayed {
-    refuse(rt, x, path, place);
-    stopped(search)
+fn found(rt: &HostRuntime, search: Search, table: Automaton, path: &[u8]) -> Option<Search> {
+    let mut prefix = [0u8; PREFIX];
+    let mut cycle = [0u8; LOOP];
+    let reply = search::found(search, table, &mut prefix, &mut cycle);
+    taken(rt, search, reply, path, Place::first())
 }
 
-fn stopped(search: Search) -> Replayed {
-    Replayed {
-        whole: false,
-        search,
+fn taken(
+    rt: &HostRuntime,
+    search: Search,
+    reply: Result<Reply, Refusal>,
+    path: &[u8],
+    place: Place,
+) -> Option<Search> {
+    match reply {
+        Ok(Reply::Taken(next)) => Some(next),
+        Ok(Reply::Finished) => Some(search),
+        Err(x) => {
+            refuse(rt, x, path, place);
+            None
+        }
     }
 }
 
@@ -167,22 +122,18 @@ fn print_search(rt: &HostRuntime, search: Search) {
     if !search.finished {
         return print_question(rt, search.n, search.m);
     }
-    let printed = print_finished(rt, search.open);
-    if printed.written {
-        let best = search.best;
-        print_automaton(rt, best);
+    let line: &[u8] = if search.open {
+        b"finished open\n"
+    } else {
+        b"finished\n"
+    };
+    if print(rt, line, line.len()).is_ok() {
+        let _ = print_automaton(rt, search.best);
     }
-}
-
-fn print_finished(rt: &HostRuntime, open: bool) -> Printed {
-    if open {
-        return print(rt, b"finished open\n", 14);
-    }
-    print(rt, b"finished\n", 9)
 }
 
 fn print_question(rt: &HostRuntime, n: usize, m: usize) {
     let mut line = [0u8; LINE];
     let length = ask(n, m, &mut line);
-    print_line(rt, &line, length);
+    let _ = print_line(rt, &line, length);
 }

@@ -1,10 +1,8 @@
 -- A number that is due and does not stand there.
 use mathlib.Core.Path.{◌≡◌, refl, sym, ap, ◌∙◌}
-use mathlib.Core.List.{List, [], ◌∷◌}
+use mathlib.Core.List.{List}
 use mathlib.Core.Option.{none}
 use Prim.Native.Nat.{ℕ}
-use denote.Enum.Declared.{tag_of, declared}
-use types.Run.{OneOf, miss}
 use Rattle.refusals.specs.declared.Refusal.TheVariants.{Form}
 use Rattle.hoa_text.specs.Basics.{option}
 use Rattle.hoa_text.specs.Tokens.{Stream, left}
@@ -12,29 +10,8 @@ use Rattle.hoa_text.specs.Grammar.{number_of, rest, at, peek, gives, refuses, du
 use Rattle.hoa_tokens.specs.declared.Token.{Token}
 use Rattle.hoa_tokens.specs.declared.Token.TheVariants.{Word, Item, Number, Quoted, Sign, Body, End, Abort, Unread, Over, Broken}
 use Rattle.hoa_tokens.specs.Answers.{stream, Reads}
-use Rattle.hoa_tokens.specs.contracts.Token.{enum}
 
-abbrev pub other_than_number : List ℕ
-other_than_number = 0 ∷ 1 ∷ 3 ∷ 4 ∷ 5 ∷ 6 ∷ 7 ∷ 8 ∷ 9 ∷ 10 ∷ []
-
--- the next token is no number
-pub number_missing : (s : List ℕ) (i : ℕ) (t : Token) → Reads s i t → OneOf other_than_number (tag_of (declared enum) t) → peek number_of (left s i) ≡ none
-number_missing s i t h g = ap (peek number_of) h.is ∙ go t g
-  where
-    go : (t : Token) → OneOf other_than_number (tag_of (declared enum) t) → peek number_of (stream s t) ≡ none
-    go (Word o e) g = refl
-    go (Item o e) g = refl
-    go (Number o v e) g = absurd (miss other_than_number 2 tt g)
-    go (Quoted o e) g = refl
-    go (Sign o b) g = refl
-    go (Body o) g = refl
-    go (End o) g = refl
-    go (Abort o) g = refl
-    go (Unread o e) g = refl
-    go (Over o) g = refl
-    go (Broken o r) g = refl
-
--- the same, from a match that has taken each number
+-- the next token is no number, from a match that has taken each number
 pub number_absent : (s : List ℕ) (i : ℕ) (t : Token) → Reads s i t → ((o v e : ℕ) → t ≡ Number o v e → ⊥) → peek number_of (left s i) ≡ none
 number_absent s i t h n = ap (peek number_of) h.is ∙ go t n
   where

@@ -5,12 +5,13 @@ use mathlib.Core.Bool.{Bool, true, false, not, ◌&&◌, ◌||◌, true≢false,
 use mathlib.Core.List.{List, [], ◌∷◌}
 use Prim.Native.Nat.{ℕ, ◌+◌, ◌-◌, ◌*◌, ◌≤◌, ◌<◌, min}
 use native.Mathlib.Decide.{dec_lt}
-use native.Mathlib.Numerals.{add-one}
 use native.Mathlib.Omega.{arith}
 use borrow.Author.Tests.{ne_eqb, eq-eqb, eqb-true}
 use lib.Dec.{eqb}
-use lib.ListN.{length, get_or, drop, length-drop, drop_of_length-le, get_or-eq_default}
-use lib.Seq.{slice, slice_empty, drop-cons}
+use lib.ListN.{length, get_or, drop, length-drop, get_or-eq_default}
+use lib.Seq.{slice, slice_empty}
+use Rattle.std.specs.List.{starts_with}
+use Rattle.std.specs.Prelude.{nat_eq}
 use Rattle.meaning.specs.TestLaws.{and_right, or_cases}
 use Rattle.automaton.specs.Bytes.{bytes}
 use Rattle.hoa_text.specs.Basics.{is_some, begins}
@@ -45,8 +46,8 @@ passed_more {s} {i} {e} h l b = record { from = omega (arith, h.from); is = h.is
 pub skipped : {s : List ℕ} {i e : ℕ} → Passed s i e → blank (get_or s e 0) ≡ false → Skipped s i e
 skipped h b = record { from = h.from; is = h.is; ends = b }
 
-pub skipped_end : {s : List ℕ} {i e : ℕ} → Passed s i e → length s ≤ e → Skipped s i e
-skipped_end {s} {i} {e} h l = skipped h (ap blank (sym (past s e l)))
+pub skipped_end : {s : List ℕ} {i e n : ℕ} → Passed s i e → length s ≤ e → e ≡ n → Skipped s i n
+skipped_end {s} {i} {e} h l q = subst (Skipped s i) q (skipped h (ap blank (sym (past s e l))))
 
 -- ---- runs
 
@@ -69,8 +70,8 @@ module _ {p : ℕ → Bool} {s : List ℕ} {i : ℕ} where
   pub scanned_run : {e : ℕ} → Scanned p s i e → p (get_or s e 0) ≡ false → Run p s i e
   scanned_run h q = record { from = h.from; to = h.to; within = h.within; ends = q }
 
-  pub scanned_end : {e : ℕ} → Scanned p s i e → length s ≤ e → p 0 ≡ false → Run p s i e
-  scanned_end {e} h l q = scanned_run h (ap p (sym (past s e l)) ∙ q)
+  pub scanned_end : {e : ℕ} → Scanned p s i e → length s ≤ e → p 0 ≡ false → Run p s i (length s)
+  scanned_end {e} h l q = let m : e ≡ length s = omega (arith, h.to) in subst (Run p s i) m (scanned_run h (ap p (sym (past s e l)) ∙ q))
 
 -- ---- numbers
 
@@ -193,21 +194,17 @@ quotes_close {s} {i} {a} false h g q =
     let l : a < length s = inside s a (omega arith) in
     record { is = left_quoted s i h a g z; lies = record { from = omega arith; longer = omega (arith, g.from); to = omega arith; last = z } }
 
-pub quotes_cut : {s : List ℕ} {i a : ℕ} (c : Bool) → get_or s i 0 ≡ 34 → InQuotes s (i + 1) a c → length s ≤ a → Reads s i (Broken i a)
+pub quotes_cut : {s : List ℕ} {i a : ℕ} (c : Bool) → get_or s i 0 ≡ 34 → InQuotes s (i + 1) a c → length s ≤ a → Reads s i (Broken i (length s))
 quotes_cut {s} {i} {a} c h g l =
-    let m : length s ≡ a = omega (arith, g.to) in
-    subst (λ n. Reads s i (Broken i n)) m (record { is = left_unquoted s i h c (subst (λ n. InQuotes s (i + 1) n c) (sym m) g); lies = omega arith })
+    let m : a ≡ length s = omega (arith, g.to) in
+    record { is = left_unquoted s i h c (subst (λ n. InQuotes s (i + 1) n c) m g); lies = omega arith }
 
 -- ---- the words of the body
 
-pub begins_step : (w s : List ℕ) (i j : ℕ) → i < length w → j < length s → begins (drop i w) (drop j s) ≡ (eqb (get_or w i 0) (get_or s j 0) && begins (drop (i + 1) w) (drop (j + 1) s))
-begins_step w s i j h k = rw (drop-cons w i 0 h, drop-cons s j 0 k, add-one i, add-one j)
-
-pub begins_short : (w s : List ℕ) (i j : ℕ) → i < length w → length s ≤ j → begins (drop i w) (drop j s) ≡ false
-begins_short w s i j h k = rw (drop-cons w i 0 h, drop_of_length-le s k)
-
-pub begins_none : (w s : List ℕ) (i : ℕ) → length w ≤ i → begins (drop i w) s ≡ true
-begins_none w s i h = rw (drop_of_length-le w h)
+pub begins_taken : (w s : List ℕ) → begins w s ≡ starts_with nat_eq s w
+begins_taken [] s = refl
+begins_taken (a ∷ w) [] = refl
+begins_taken (a ∷ w) (b ∷ s) = ap (λ x. eqb a b && x) (begins_taken w s)
 
 begins_length : (w s : List ℕ) → begins w s ≡ true → length w ≤ length s
 begins_length [] s h = omega arith

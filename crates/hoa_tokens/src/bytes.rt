@@ -9,14 +9,12 @@ ghost use Rattle.hoa_tokens.specs.Answers.{Skipped};
 pub fn skip_blanks(text: &[u8], at: usize) -> usize
     ensures { Skipped text.now at result }
 {
-    let mut i = at;
-    while i < text.len() {
+    for i in at..text.len() {
         if !is_blank(text[i]) {
             return i;
         }
-        i += 1;
     }
-    i
+    at.max(text.len())
 }
 
 // The end of the run of a word's bytes at `from`.
@@ -24,14 +22,12 @@ pub fn word_end(text: &[u8], from: usize) -> usize
     requires { from ≤ length text.now }
     ensures { Run in_word text.now from result }
 {
-    let mut end = from;
-    while end < text.len() {
+    for end in from..text.len() {
         if !in_word(text[end]) {
             return end;
         }
-        end += 1;
     }
-    end
+    text.len()
 }
 
 // The byte at an offset, 0 past the end.

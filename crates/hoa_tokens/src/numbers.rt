@@ -30,28 +30,23 @@ pub fn digits(text: &[u8], start: usize) -> DigitRun
     ensures { Digits text.now start result.value result.end }
 {
     let mut value = 0;
-    let mut end = start;
-    while end < text.len() {
+    for end in start..text.len() {
         let byte = text[end];
         if !is_digit(byte) {
             return DigitRun { value, end };
         }
         value = with_digit(value, byte);
-        end += 1;
     }
-    DigitRun { value, end }
+    DigitRun {
+        value,
+        end: text.len(),
+    }
 }
 
 fn with_digit(value: usize, byte: u8) -> usize
     requires { (value ≤ 255) × (48 ≤ byte) }
     ensures { result ≡ min (value * 10 + (byte - 48)) 255 }
 {
-    let more = value * 10 + wide(byte - b'0');
+    let more = value * 10 + usize::from(byte - b'0');
     if more <= LARGEST { more } else { LARGEST }
-}
-
-fn wide(byte: u8) -> usize
-    ensures { result ≡ byte }
-{
-    byte as usize
 }

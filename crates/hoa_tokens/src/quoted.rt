@@ -9,17 +9,15 @@ pub fn quoted(text: &[u8], start: usize) -> Token
     requires { get_or text.now start 0 ≡ 34 }
     ensures { Reads text.now start result }
 {
-    let mut end = start + 1;
     let mut carried = false;
-    while end < text.len() {
+    for end in start + 1..text.len() {
         let byte = text[end];
         if free(carried, byte, b'"') {
             return Token::Quoted(start, end);
         }
         carried = free(carried, byte, b'\\');
-        end += 1;
     }
-    Token::Broken(start, end)
+    Token::Broken(start, text.len())
 }
 
 // Whether a byte is the sought one, and is not carried.

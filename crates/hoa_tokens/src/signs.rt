@@ -27,16 +27,5 @@ fn begins(text: &[u8], at: usize, word: &[u8]) -> bool
     requires { at < length text.now }
     ensures { result ≡ begins word.now (drop at text.now) }
 {
-    let mut i = 0;
-    while i < word.len() {
-        let place = at + i;
-        if text.len() <= place {
-            return false;
-        }
-        if word[i] != text[place] {
-            return false;
-        }
-        i += 1;
-    }
-    true
+    text[at..].starts_with(word)
 }

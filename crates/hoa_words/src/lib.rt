@@ -41,31 +41,17 @@ pub const ABORT: [u8; 9] = *b"--ABORT--";
 pub fn same(word: &[u8], other: &[u8]) -> bool
     ensures { result ≡ same word.now other.now }
 {
-    let size = word.len();
-    if other.len() != size {
-        return false;
-    }
-    let mut i = 0;
-    while i < size {
-        if word[i] != other[i] {
-            return false;
-        }
-        i += 1;
-    }
-    true
+    word == other
 }
 
 // Whether the text from `start` up to `end` is the word. A part that does not lie in the text spells nothing.
 pub fn spells(text: &[u8], start: usize, end: usize, word: &[u8]) -> bool
     ensures { result ≡ spells text.now start end word.now }
 {
-    if start > end {
-        return false;
+    match text.get(start..end) {
+        Some(part) => same(word, part),
+        None => false,
     }
-    if end > text.len() {
-        return false;
-    }
-    same(word, &text[start..end])
 }
 
 // Whether the text from `start` up to the colon at `end` is the item name, whose own colon stands last.

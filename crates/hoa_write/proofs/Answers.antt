@@ -6,13 +6,13 @@ use mathlib.Core.List.{List, ◌++◌, append_assoc}
 use Prim.Native.Nat.{ℕ, ◌+◌, ◌≤◌, ◌<◌}
 use native.Mathlib.Omega.{arith}
 use lib.ListN.{length, drop, length-append}
+use Rattle.std.specs.Prelude.{Ok, Err}
 use Rattle.meaning.specs.Counting.{each}
 use Rattle.automaton.specs.declared.Automaton.{Automaton}
 use Rattle.refusals.specs.declared.Refusal.TheVariants.{Outside, Short}
 use Rattle.automaton.specs.Value.{Valid}
 use Rattle.decimal.specs.Wrote.{Wrote}
 use Rattle.hoa_text.specs.Written.{text, hoa_line, states_line, start_line, names_part, acceptance_line, body_line, state_lines, end_line}
-use Rattle.hoa_write.specs.declared.Written.TheVariants.{Text, Refused}
 use Rattle.hoa_write.specs.Answer.{hoa_room, Answered}
 
 -- ---- the text
@@ -40,22 +40,22 @@ module _ (a : Automaton) where
 -- ---- the answer
 
 module _ (a : Automaton) (out : List ℕ) where
-  pub short_answer : length out < hoa_room → Answered a out out (Refused (Short hoa_room (length out)))
+  pub short_answer : length out < hoa_room → Answered a out out (Err (Short hoa_room (length out)))
   short_answer h = record { short = λ g. (refl, refl, refl); outside = λ g. absurd (omega arith); written = λ g. absurd (omega arith) }
 
   module _ (h : hoa_room ≤ length out) where
-    pub outside_answer : {r : Bool} → (r ≡ true) ↔ Valid a → r ≡ false → Answered a out out (Refused Outside)
+    pub outside_answer : {r : Bool} → (r ≡ true) ↔ Valid a → r ≡ false → Answered a out out (Err Outside)
     outside_answer {r} e t = record {
       short = λ g. absurd (omega arith);
       outside = λ _ _. (refl, refl, refl);
       written = λ _ v. absurd (true≢false (sym (e.1 v) ∙ t));
     }
 
-    pub text_answer : {after : List ℕ} {n : ℕ} → Valid a → Wrote out 0 (text a) after n → Answered a out after (Text n)
+    pub text_answer : {after : List ℕ} {n : ℕ} → Valid a → Wrote out 0 (text a) after n → Answered a out after (Ok n)
     text_answer {after} {n} v w =
         let e : n ≡ length (text a) = omega (arith, w.next) in
         record {
           short = λ g. absurd (omega arith);
           outside = λ _ g. absurd (g v);
-          written = λ _ _. (ap (λ k. Text k) e, w.is ∙ ap (λ k. text a ++ drop k out) e, refl);
+          written = λ _ _. (ap (λ k. Ok k) e, w.is ∙ ap (λ k. text a ++ drop k out) e, refl);
         }

@@ -1,5 +1,5 @@
 -- The pieces of a line, case by case.
-use mathlib.Core.Path.{◌≡◌, refl, sym, ap, ◌∙◌, subst}
+use mathlib.Core.Path.{◌≡◌, refl, sym, ap, ap₂, ◌∙◌, subst}
 use mathlib.Core.Logic.{◌≢◌}
 use mathlib.Core.Bool.{Bool, true, false, not, cond}
 use mathlib.Core.List.{List, [], ◌∷◌, ◌++◌, append_assoc}
@@ -114,17 +114,16 @@ pub marks_none : (n m at : ℕ) {d : List ℕ} → m ≡ 0 → at + length (mark
 marks_none n m at {d} e h =
     subst (λ b. Wrote d at (cond b [] (32 ∷ 123 ∷ (separated " " (members n m) ++ (125 ∷ [])))) d at) (sym (eq-eqb m 0 e)) (wrote_none d at (omega arith))
 
-pub edge_is : (a : Automaton) (q l : ℕ)
-    → (91 ∷ (label_of a.propositions l ++ (93 ∷ 32 ∷ []))) ++ (decimal (destination a q l) ++ (marks_of a.sets (mark_set a q l) ++ (10 ∷ []))) ≡ edge_line a q l
-edge_is a q l = pieces (label_of a.propositions l) (decimal (destination a q l)) (marks_of a.sets (mark_set a q l))
-  where
-    pieces : (u v w : List ℕ) → (91 ∷ (u ++ (93 ∷ 32 ∷ []))) ++ (v ++ (w ++ (10 ∷ []))) ≡ line (91 ∷ (u ++ (93 ∷ 32 ∷ (v ++ w))))
-    pieces u v w = simp append_assoc
+module _ (a : Automaton) (q l : ℕ) {n m : ℕ} (e : n ≡ destination a q l) (f : m ≡ mark_set a q l) where
+  pub edge_is : (91 ∷ (label_of a.propositions l ++ (93 ∷ 32 ∷ []))) ++ (decimal n ++ (marks_of a.sets m ++ (10 ∷ []))) ≡ edge_line a q l
+  edge_is = pieces (label_of a.propositions l) (decimal n) (marks_of a.sets m) ∙ ap₂ (λ n m. line (91 ∷ (label_of a.propositions l ++ (93 ∷ 32 ∷ (decimal n ++ marks_of a.sets m))))) e f
+    where
+      pieces : (u v w : List ℕ) → (91 ∷ (u ++ (93 ∷ 32 ∷ []))) ++ (v ++ (w ++ (10 ∷ []))) ≡ line (91 ∷ (u ++ (93 ∷ 32 ∷ (v ++ w))))
+      pieces u v w = simp append_assoc
 
-pub edge_length : (a : Automaton) (q l : ℕ)
-    → length (edge_line a q l) ≡ length (91 ∷ (label_of a.propositions l ++ (93 ∷ 32 ∷ []))) + (length (decimal (destination a q l)) + (length (marks_of a.sets (mark_set a q l)) + 1))
-edge_length a q l =
-    let u : List ℕ = 91 ∷ (label_of a.propositions l ++ (93 ∷ 32 ∷ [])) in
-    let v = decimal (destination a q l) in
-    let w = marks_of a.sets (mark_set a q l) in
-    omega (arith, ap length (edge_is a q l), length-append u (v ++ (w ++ (10 ∷ []))), length-append v (w ++ (10 ∷ [])), length-append w (10 ∷ []))
+  pub edge_length : length (edge_line a q l) ≡ length (91 ∷ (label_of a.propositions l ++ (93 ∷ 32 ∷ []))) + (length (decimal n) + (length (marks_of a.sets m) + 1))
+  edge_length =
+      let u : List ℕ = 91 ∷ (label_of a.propositions l ++ (93 ∷ 32 ∷ [])) in
+      let v = decimal n in
+      let w = marks_of a.sets m in
+      omega (arith, ap length edge_is, length-append u (v ++ (w ++ (10 ∷ []))), length-append v (w ++ (10 ∷ [])), length-append w (10 ∷ []))

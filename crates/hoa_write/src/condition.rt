@@ -49,10 +49,8 @@ fn sum(acceptance: u16, sets: usize, out: &mut [u8], at: usize) -> usize
 {
     let count = power_of_two(sets);
     let mut next = at;
-    let mut x: usize = 0;
-    while x < count {
+    for x in 0..count {
         next = summand(acceptance, x, sets, out, next);
-        x += 1;
     }
     next
 }
@@ -74,10 +72,8 @@ fn product(x: u16, sets: usize, out: &mut [u8], at: usize) -> usize
     ensures { Wrote out.old at (marks_text sets x) out.new result }
 {
     let mut next = at;
-    let mut i: usize = 0;
-    while i < sets {
+    for i in 0..sets {
         next = factor(x, i, out, next);
-        i += 1;
     }
     next
 }

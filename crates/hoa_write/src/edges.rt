@@ -29,10 +29,8 @@ fn edge_lines(a: Automaton, q: usize, out: &mut [u8]) -> usize
 {
     let count = power_of_two(a.propositions);
     let mut at: usize = 0;
-    let mut l: usize = 0;
-    while l < count {
+    for l in 0..count {
         at += edge_line(a, q, l, &mut out[at..]);
-        l += 1;
     }
     at
 }
@@ -42,11 +40,11 @@ fn edge_line(a: Automaton, q: usize, l: usize, out: &mut [u8]) -> usize
     ensures { Wrote out.old 0 (edge_line a q l) out.new result }
 {
     let cell = q * Automaton::LETTERS + l;
-    let destinations = a.destinations;
-    let marked = a.marks;
+    let destination = usize::from(a.destinations[cell]);
+    let marked = u16::from(a.marks[cell]);
     let mut at = bracketed(a.propositions, l as u16, out);
-    at = number(destinations[cell] as usize, out, at);
-    at = marks(a.sets, marked[cell] as u16, out, at);
+    at = number(destination, out, at);
+    at = marks(a.sets, marked, out, at);
     byte(b'\n', out, at)
 }
 
@@ -76,10 +74,8 @@ fn literals(k: usize, l: u16, out: &mut [u8], at: usize) -> usize
     ensures { Wrote out.old at (each k (literal_piece l)) out.new result }
 {
     let mut next = at;
-    let mut i: usize = 0;
-    while i < k {
+    for i in 0..k {
         next = literal(l, i, out, next);
-        i += 1;
     }
     next
 }
@@ -113,10 +109,8 @@ fn members(sets: usize, m: u16, out: &mut [u8], at: usize) -> usize
     ensures { Wrote out.old at (each sets (mark_piece m)) out.new result }
 {
     let mut next = at;
-    let mut i: usize = 0;
-    while i < sets {
+    for i in 0..sets {
         next = member(m, i, out, next);
-        i += 1;
     }
     next
 }

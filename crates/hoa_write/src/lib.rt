@@ -16,29 +16,20 @@ mod edges;
 mod lines;
 mod parts;
 
-#[derive(Clone, Copy)]
-pub enum Written {
-    // The number of bytes.
-    Text(usize),
-    Refused(Refusal),
-}
+// Bytes of the lent buffer: more than any text has.
+pub const BYTES: usize = 8192;
 
-impl Written {
-    // Bytes of the lent buffer: more than any text has.
-    pub const BYTES: usize = 8192;
-}
-
-// Writes the text of an automaton at the start of the lent buffer.
-pub fn write(a: Automaton, out: &mut [u8]) -> Written
+// Writes the text of an automaton at the start of the lent buffer, and returns the number of bytes.
+pub fn write(a: Automaton, out: &mut [u8]) -> Result<usize, Refusal>
     ensures { Answered a out.old out.new result }
 {
-    if out.len() < Written::BYTES {
-        return Written::Refused(Refusal::Short(Written::BYTES, out.len()));
+    if out.len() < BYTES {
+        return Err(Refusal::Short(BYTES, out.len()));
     }
     if !a.valid() {
-        return Written::Refused(Refusal::Outside);
+        return Err(Refusal::Outside);
     }
-    Written::Text(text(a, out))
+    Ok(text(a, out))
 }
 
 fn text(a: Automaton, out: &mut [u8]) -> usize
@@ -81,10 +72,8 @@ fn states(a: Automaton, out: &mut [u8]) -> usize
     ensures { Wrote out.old 0 (each a.states (state_lines a)) out.new result }
 {
     let mut at: usize = 0;
-    let mut q: usize = 0;
-    while q < a.states {
+    for q in 0..a.states {
         at += edges::state_lines(a, q, &mut out[at..]);
-        q += 1;
     }
     at
 }

@@ -74,10 +74,8 @@ fn quoted_names(a: Automaton, out: &mut [u8], at: usize) -> usize
     ensures { Wrote out.old at (each a.propositions (quoted_name a)) out.new result }
 {
     let mut next = at;
-    let mut i: usize = 0;
-    while i < a.propositions {
+    for i in 0..a.propositions {
         next = quoted_name(a, i, out, next);
-        i += 1;
     }
     next
 }
@@ -86,13 +84,11 @@ fn quoted_name(a: Automaton, i: usize, out: &mut [u8], at: usize) -> usize
     requires { Valid a × (i < a.propositions) × (at + length (quoted_name a i) ≤ length out.old) }
     ensures { Wrote out.old at (quoted_name a i) out.new result }
 {
-    let names = a.names;
-    let lengths = a.lengths;
     let from = i * Automaton::NAME;
-    let to = from + lengths[i] as usize;
+    let to = from + usize::from(a.lengths[i]);
     let mut next = byte(b' ', out, at);
     next = byte(b'"', out, next);
-    next = word(&names[from..to], out, next);
+    next = word(&a.names[from..to], out, next);
     byte(b'"', out, next)
 }
 

@@ -25,17 +25,7 @@ pub fn word(bytes: &[u8], out: &mut [u8], at: usize) -> usize
     if size - at < bytes.len() {
         return at;
     }
-    copied(bytes, out, at)
-}
-
-fn copied(bytes: &[u8], out: &mut [u8], at: usize) -> usize
-    requires { at + length bytes.now ≤ length out.old }
-    ensures { Wrote out.old at bytes.now out.new result }
-{
-    let mut i: usize = 0;
-    while i < bytes.len() {
-        out[at + i] = bytes[i];
-        i += 1;
-    }
-    at + i
+    let end = at + bytes.len();
+    out[at..end].copy_from_slice(bytes);
+    end
 }

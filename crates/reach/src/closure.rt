@@ -14,12 +14,10 @@ pub fn add_steps(rows: &mut [u16; Automaton::STATES], a: Automaton)
     ensures { Reached (view a) 256 0 rows.new }
 {
     let letters = power_of_two(a.propositions);
-    let mut i: usize = 0;
-    while i < Automaton::CELLS {
+    for (i, destination) in a.destinations.iter().enumerate() {
         let u = i / Automaton::LETTERS;
-        let to = single(a.destinations[i] as usize);
+        let to = single(*destination as usize);
         rows[u] = joined(rows[u], to, i % Automaton::LETTERS < letters);
-        i += 1;
     }
 }
 
@@ -28,10 +26,8 @@ pub fn close(rows: &mut [u16; Automaton::STATES], states: usize)
     requires { (states ≤ 16) × (length rows.old ≡ 16) }
     ensures { Closed states rows.old states rows.new }
 {
-    let mut k: usize = 0;
-    while k < states {
+    for k in 0..states {
         through(rows, k);
-        k += 1;
     }
 }
 
@@ -41,11 +37,8 @@ fn through(rows: &mut [u16; Automaton::STATES], k: usize)
     ensures { Through k rows.old 16 rows.new }
 {
     let more = rows[k];
-    let mut u: usize = 0;
-    while u < Automaton::STATES {
-        let row = rows[u];
-        rows[u] = joined(row, more, has(row, k));
-        u += 1;
+    for row in rows.iter_mut() {
+        *row = joined(*row, more, has(*row, k));
     }
 }
 

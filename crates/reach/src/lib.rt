@@ -39,12 +39,10 @@ fn add_mutual(
     requires { (states ≤ 16) × (rows.old ≡ replicate 16 0) }
     ensures { Mutual reached.now (states * 16) rows.new }
 {
-    let mut i: usize = 0;
-    while i < states * Automaton::STATES {
+    for i in 0..states * Automaton::STATES {
         let u = i / Automaton::STATES;
         let v = i % Automaton::STATES;
         let both = has(reached[u], v) & has(reached[v], u);
         rows[u] = closure::joined(rows[u], single(v), both);
-        i += 1;
     }
 }

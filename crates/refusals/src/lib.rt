@@ -2,7 +2,7 @@
 #![tactic(auto)]
 
 ghost use Rattle.std.specs.Prelude.{◌≡◌};
-ghost use Rattle.refusals.specs.Refused.{code_of};
+ghost use Rattle.refusals.specs.Refused.{row, code_of};
 
 // The rows of document 01's table "What is turned down", in its order; the second rows of 3 and 4 are cases of their own.
 #[derive(Clone, Copy)]
@@ -49,91 +49,46 @@ pub struct Code {
     pub second: usize,
 }
 
+// A row of the table: its number and its two values.
+fn row(number: usize, first: usize, second: usize) -> Code
+    ensures { result ≡ row number first second }
+{
+    Code {
+        number,
+        first,
+        second,
+    }
+}
+
+impl From<Refusal> for Code {
+    ghost from_gives = { λ refusal r. r ≡ code_of refusal };
+
+    fn from(refusal: Refusal) -> Code {
+        match refusal {
+            Refusal::Form(offset) => row(1, offset, 0),
+            Refusal::Size(offset) => row(2, offset, 0),
+            Refusal::Item(offset) => row(3, offset, 0),
+            Refusal::OtherAcceptance => row(3, 0, 0),
+            Refusal::Undeclared(offset) => row(4, offset, 0),
+            Refusal::Outside => row(4, 0, 0),
+            Refusal::Body(offset, state) => row(5, offset, state),
+            Refusal::SecondEdge(state, letter) => row(6, state, letter),
+            Refusal::NoEdge(state, letter) => row(7, state, letter),
+            Refusal::Dimensions(n, m) => row(8, n, m),
+            Refusal::SolverForm(offset) => row(9, offset, 0),
+            Refusal::Literal(offset) => row(10, offset, 0),
+            Refusal::NoStep(state, letter) => row(11, state, letter),
+            Refusal::Differ(prefix, cycle) => row(12, prefix, cycle),
+            Refusal::Short(needed, given) => row(13, needed, given),
+            Refusal::Propositions(first, second) => row(14, first, second),
+        }
+    }
+}
+
 impl Refusal {
     pub fn code(self) -> Code
         ensures { result ≡ code_of self }
     {
-        match self {
-            Refusal::Form(offset) => Code {
-                number: 1,
-                first: offset,
-                second: 0,
-            },
-            Refusal::Size(offset) => Code {
-                number: 2,
-                first: offset,
-                second: 0,
-            },
-            Refusal::Item(offset) => Code {
-                number: 3,
-                first: offset,
-                second: 0,
-            },
-            Refusal::OtherAcceptance => Code {
-                number: 3,
-                first: 0,
-                second: 0,
-            },
-            Refusal::Undeclared(offset) => Code {
-                number: 4,
-                first: offset,
-                second: 0,
-            },
-            Refusal::Outside => Code {
-                number: 4,
-                first: 0,
-                second: 0,
-            },
-            Refusal::Body(offset, state) => Code {
-                number: 5,
-                first: offset,
-                second: state,
-            },
-            Refusal::SecondEdge(state, letter) => Code {
-                number: 6,
-                first: state,
-                second: letter,
-            },
-            Refusal::NoEdge(state, letter) => Code {
-                number: 7,
-                first: state,
-                second: letter,
-            },
-            Refusal::Dimensions(n, m) => Code {
-                number: 8,
-                first: n,
-                second: m,
-            },
-            Refusal::SolverForm(offset) => Code {
-                number: 9,
-                first: offset,
-                second: 0,
-            },
-            Refusal::Literal(offset) => Code {
-                number: 10,
-                first: offset,
-                second: 0,
-            },
-            Refusal::NoStep(state, letter) => Code {
-                number: 11,
-                first: state,
-                second: letter,
-            },
-            Refusal::Differ(prefix, cycle) => Code {
-                number: 12,
-                first: prefix,
-                second: cycle,
-            },
-            Refusal::Short(needed, given) => Code {
-                number: 13,
-                first: needed,
-                second: given,
-            },
-            Refusal::Propositions(first, second) => Code {
-                number: 14,
-                first,
-                second,
-            },
-        }
+        Code::from(self)
     }
 }

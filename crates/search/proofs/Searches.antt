@@ -1,10 +1,11 @@
 -- THE SEARCH, over every list of calls from the start: its best table agrees with the reference, it asks what it may, and it ends with a reason.
-use Rattle.std.specs.Prelude.{◌≡◌, refl, true, List, ◌+◌, ◌-◌, ◌≤◌, eqb}
-use Rattle.std.proofs.Common.{sym, ap, subst, ⊎_elim, le_trans, arith, eqb-true}
+use Rattle.std.specs.Prelude.{◌≡◌, refl, Result, Ok, true, List, ◌+◌, ◌-◌, ◌≤◌, eqb}
+use Rattle.std.proofs.Common.{sym, subst, ⊎_elim, le_trans, arith, eqb-true}
 use Rattle.automaton.specs.declared.Automaton.{Automaton}
+use Rattle.refusals.specs.declared.Refusal.{Refusal}
 use Rattle.automaton.specs.Value.{Valid}
 use Rattle.search_rule.specs.Rule.{below, fresh}
-use Rattle.search.specs.declared.Reply.{Reply}
+use Rattle.search_rule.specs.declared.Search.{Search}
 use Rattle.search.specs.Replies as reply
 use Rattle.search.specs.Replies.{Started}
 use Rattle.search.specs.Calls.{Call, Calls, after, taken, Reason, smallest, Searches}
@@ -43,8 +44,8 @@ module _ {a : Automaton} (v : Valid a) (cs : List Call) (k : Calls (fresh a) cs)
         each = each_call (fresh a) cs (kept_fresh v) k;
       }
 
-pub searches : {a : Automaton} {r : Reply} → Valid a → Started a r → (cs : List Call) → Calls r.search cs → Searches a cs (after r.search cs)
-searches v (reply.outside n e c) cs k = absurd (n v)
-searches {a} v (reply.taken w e c) cs k =
-    let q = ap (λ r. r.search) e in
-    subst (λ s. Searches a cs (after s cs)) (sym q) (fresh_searches v cs (subst (λ s. Calls s cs) q k))
+pub searches : {a : Automaton} {r : Result Search Refusal} {s : Search} → Valid a → Started a r → r ≡ Ok s → (cs : List Call) → Calls s cs → Searches a cs (after s cs)
+searches v (reply.outside n e c) o cs k = absurd (n v)
+searches {a} {r} {s} v (reply.taken w e c) o cs k =
+    let q : fresh a ≡ s = cc in
+    subst (λ s. Searches a cs (after s cs)) q (fresh_searches v cs (subst (λ s. Calls s cs) (sym q) k))

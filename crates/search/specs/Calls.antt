@@ -1,16 +1,16 @@
 -- DEFINITIONS: a list of calls of a search, and what is said of it.
-use Rattle.std.specs.Prelude.{◌≡◌, ◌≢◌, ◌⊎◌, true, false, ℕ, ◌+◌, ◌-◌, ◌≤◌, ◌<◌}
+use Rattle.std.specs.Prelude.{◌≡◌, ◌⊎◌, Result, Ok, Err, true, false, ℕ, ◌+◌, ◌-◌, ◌≤◌, ◌<◌}
 use mathlib.Core.List.{List, [], ◌∷◌, Memᴰ}
 use Rattle.meaning.specs.Agreement.{Agree}
 use Rattle.automaton.specs.declared.Automaton.{Automaton}
+use Rattle.refusals.specs.declared.Refusal.{Refusal}
 use Rattle.automaton.specs.Value.{Valid}
 use Rattle.automaton.specs.View.{view}
 use Rattle.search_rule.specs.declared.Search.{Search}
-use Rattle.search.specs.declared.Answer.{Answer}
-use Rattle.search.specs.declared.Answer.TheVariants.{Taken, Finished, Refused}
 use Rattle.search.specs.declared.Reply.{Reply}
+use Rattle.search.specs.declared.Reply.TheVariants.{Taken, Finished}
 use Rattle.search_rule.specs.Rule as rule
-use Rattle.search.specs.Replies.{InfOfAll, Found, Told}
+use Rattle.search.specs.Replies.{next, InfOfAll, Found, Told}
 
 -- ---- the calls
 
@@ -24,10 +24,10 @@ pub data Verdict : Type 0 where
 pub record Call : Type 0 where
   pub from : Search
   pub verdict : Verdict
-  pub reply : Reply
+  pub reply : Result Reply Refusal
 
 -- a reply that meets the contract of its call
-abbrev pub Meets : Search → Verdict → Reply → Type 0
+abbrev pub Meets : Search → Verdict → Result Reply Refusal → Type 0
 Meets s (table t prefix prefix-after loop loop-after) r = Found s t prefix prefix-after loop loop-after r
 Meets s none r = Told s (rule.none s) r
 Meets s unknown r = Told s (rule.unknown s) r
@@ -35,33 +35,37 @@ Meets s unknown r = Told s (rule.unknown s) r
 -- calls from the state s on, each with the state that the one before it left, whatever its answer
 abbrev pub Calls : Search → List Call → Type 0
 Calls s [] = Unit {0}
-Calls s (c ∷ cs) = (c.from ≡ s) × Meets s c.verdict c.reply × Calls c.reply.search cs
+Calls s (c ∷ cs) = (c.from ≡ s) × Meets s c.verdict c.reply × Calls (next s c.reply) cs
 
 -- the state that they leave
 abbrev pub after : Search → List Call → Search
 after s [] = s
-after s (c ∷ cs) = after c.reply.search cs
+after s (c ∷ cs) = after (next s c.reply) cs
 
 -- ---- how many were taken
 
-abbrev pub one_taken : Answer → ℕ
-one_taken Taken = 1
-one_taken Finished = 0
-one_taken (Refused f) = 0
+-- the rule was applied
+abbrev pub WasTaken : Result Reply Refusal → Type 0
+WasTaken r = (t : Search) × (r ≡ Ok (Taken t))
+
+abbrev pub one_taken : Result Reply Refusal → ℕ
+one_taken (Ok (Taken t)) = 1
+one_taken (Ok Finished) = 0
+one_taken (Err f) = 0
 
 abbrev pub taken : List Call → ℕ
 taken [] = 0
-taken (c ∷ cs) = one_taken c.reply.answer + taken cs
+taken (c ∷ cs) = one_taken c.reply + taken cs
 
 -- of these, tables
-abbrev pub one_table : Verdict → Answer → ℕ
-one_table (table t prefix prefix-after loop loop-after) answer = one_taken answer
-one_table none answer = 0
-one_table unknown answer = 0
+abbrev pub one_table : Verdict → Result Reply Refusal → ℕ
+one_table (table t prefix prefix-after loop loop-after) r = one_taken r
+one_table none r = 0
+one_table unknown r = 0
 
 abbrev pub tables : List Call → ℕ
 tables [] = 0
-tables (c ∷ cs) = one_table c.verdict c.reply.answer + tables cs
+tables (c ∷ cs) = one_table c.verdict c.reply + tables cs
 
 -- ---- what is asked, and why it finishes
 
@@ -70,7 +74,7 @@ pub record Heard (v : Verdict) (cs : List Call) (n m : ℕ) : Type 0 where
   pub call : Call
   pub listed : Memᴰ call cs
   pub is : call.verdict ≡ v
-  pub was_taken : call.reply.answer ≡ Taken
+  pub was_taken : WasTaken call.reply
   pub asked_n : call.from.n ≡ n
   pub asked_m : call.from.m ≡ m
 
@@ -96,10 +100,10 @@ pub data Reason (cs : List Call) (s : Search) : Type 0 where
 -- what one call does
 pub record Effect (c : Call) : Type 0 where
   -- the best table stays, or one with fewer states takes its place
-  pub best : (c.reply.search.best ≡ c.from.best) ⊎ (c.reply.search.best.states < c.from.best.states)
+  pub best : ((next c.from c.reply).best ≡ c.from.best) ⊎ ((next c.from c.reply).best.states < c.from.best.states)
   -- a verdict that is not taken changes nothing, and a finished search takes none
-  pub not_taken : c.reply.answer ≢ Taken → c.reply.search ≡ c.from
-  pub finished : c.from.finished ≡ true → c.reply.answer ≢ Taken
+  pub not_taken : ¬ WasTaken c.reply → next c.from c.reply ≡ c.from
+  pub finished : c.from.finished ≡ true → ¬ WasTaken c.reply
 
 -- ---- what holds of a list of calls of a search for the reference a, and of the state s that they leave. Every beginning of the list is such a
 -- list, so it holds at every point.

@@ -6,8 +6,8 @@ use Rattle.std.proofs.Math.Decide.{dec_lt}
 use Rattle.automaton.specs.declared.Automaton.{Automaton}
 use Rattle.search_rule.specs.declared.Search.{Search}
 use Rattle.search_rule.specs.Rule.{below}
-use Rattle.search.specs.declared.Answer.TheVariants.{Taken}
-use Rattle.search.specs.Calls.{Verdict, none, unknown, Call, Calls, after, Heard, Tried, Reason, smallest, no_table, not_known}
+use Rattle.search.specs.Replies.{next}
+use Rattle.search.specs.Calls.{Verdict, none, unknown, Call, Calls, after, WasTaken, Heard, Tried, Reason, smallest, no_table, not_known}
 use Rattle.search.specs.Moves.{Step, same, moved, Moves, by_table, by_none, by_unknown, step}
 use Rattle.search.specs.Kept.{Kept, none_cases}
 use Rattle.search.specs.Lists.{kept_step, after_finished, tables_n}
@@ -28,7 +28,7 @@ reason_later c (not_known h o) = not_known (heard_later c h) o
 
 -- ---- the first call
 
-module _ {a : Automaton} {s : Search} (k : Kept a s) (u : s.finished ≡ false) (c : Call) (cs : List Call) (from : c.from ≡ s) (x : c.reply.answer ≡ Taken) where
+module _ {a : Automaton} {s : Search} (k : Kept a s) (u : s.finished ≡ false) (c : Call) (cs : List Call) (from : c.from ≡ s) (x : WasTaken c.reply) where
   heard : (v : Verdict) → c.verdict ≡ v → Heard v (c ∷ cs) s.n s.m
   heard v e = record { call = c; listed = Memᴰ.head refl; is = e; was_taken = x; asked_n = ap (λ s. s.n) from; asked_m = ap (λ s. s.m) from }
 
@@ -56,30 +56,30 @@ module _ {a : Automaton} where
   pub tried_after : (s : Search) (cs : List Call) → Kept a s → Calls s cs → (m : ℕ) → s.m ≤ m → m < (after s cs).m → Tried cs (after s cs) m
   tried_after s [] k u m h g = absurd (omega arith)
   tried_after s (c ∷ cs) k (e, t, u) m h g =
-      go (step s c.verdict c.reply t) (dec_lt m c.reply.search.m)
-      (λ l. tried_after c.reply.search cs (kept_step k (step s c.verdict c.reply t)) u m l g)
+      go (step s c.verdict c.reply t) (dec_lt m (next s c.reply).m)
+      (λ l. tried_after (next s c.reply) cs (kept_step k (step s c.verdict c.reply t)) u m l g)
     where
       last : Search
-      last = after c.reply.search cs
+      last = after (next s c.reply) cs
 
-      go : Step s c.verdict c.reply → Dec (m < c.reply.search.m) → (c.reply.search.m ≤ m → Tried cs last m) → Tried (c ∷ cs) last m
+      go : Step s c.verdict c.reply → Dec (m < (next s c.reply).m) → ((next s c.reply).m ≤ m → Tried cs last m) → Tried (c ∷ cs) last m
       go p (no l) later = tried_later c (later (omega arith))
       go (same o q) (yes l) later = absurd (omega (arith, ap (λ s. s.m) q))
-      go (moved x w r q v) (yes l) later = record {
+      go (moved w r q v) (yes l) later = record {
         n = s.n;
         n_from = omega (arith, tables_n s (c ∷ cs) k (e, t, u));
-        heard = rises k w c cs e x c.verdict refl v m h (subst (λ r. m < r.m) q l);
+        heard = rises k w c cs e (r, q) c.verdict refl v m h (subst (λ t. m < t.m) (ap (next s) q) l);
       }
 
   pub reason_after : (s : Search) (cs : List Call) → Kept a s → Calls s cs → (after s cs).finished ≡ true → (s.finished ≡ true) ⊎ Reason cs (after s cs)
   reason_after s [] k u h = inl h
   reason_after s (c ∷ cs) k (e, t, u) h =
-      go (step s c.verdict c.reply t) (reason_after c.reply.search cs (kept_step k (step s c.verdict c.reply t)) u h)
+      go (step s c.verdict c.reply t) (reason_after (next s c.reply) cs (kept_step k (step s c.verdict c.reply t)) u h)
     where
-      go : Step s c.verdict c.reply → (c.reply.search.finished ≡ true) ⊎ Reason cs (after c.reply.search cs)
-          → (s.finished ≡ true) ⊎ Reason (c ∷ cs) (after c.reply.search cs)
+      go : Step s c.verdict c.reply → ((next s c.reply).finished ≡ true) ⊎ Reason cs (after (next s c.reply) cs)
+          → (s.finished ≡ true) ⊎ Reason (c ∷ cs) (after (next s c.reply) cs)
       go p (inr r) = inr (reason_later c r)
       go (same o q) (inl f) = inl (ap (λ s. s.finished) (sym q) ∙ f)
-      go (moved x w t q m) (inl f) =
-          inr (subst (Reason (c ∷ cs)) (sym (after_finished c.reply.search cs f u ∙ q))
-          (reason_moves k w c cs e x c.verdict refl m (ap (λ s. s.finished) (sym q) ∙ f)))
+      go (moved w t q m) (inl f) =
+          inr (subst (Reason (c ∷ cs)) (sym (after_finished (next s c.reply) cs f u ∙ ap (next s) q))
+          (reason_moves k w c cs e (t, q) c.verdict refl m (ap (λ x. (next s x).finished) (sym q) ∙ f)))

@@ -1,5 +1,5 @@
 -- What a verdict does: it is not taken and nothing changes, or the rule is applied.
-use Rattle.std.specs.Prelude.{◌≡◌, ◌≢◌, false, List, ℕ}
+use Rattle.std.specs.Prelude.{◌≡◌, Result, Ok, Err, false, List, ℕ}
 use Rattle.std.proofs.Common.{ap, arith}
 use Rattle.meaning.specs.Agreement.{Agree}
 use Rattle.automaton.specs.declared.Automaton.{Automaton}
@@ -7,13 +7,12 @@ use Rattle.refusals.specs.declared.Refusal.{Refusal}
 use Rattle.automaton.specs.Value.{Valid}
 use Rattle.automaton.specs.View.{view}
 use Rattle.search_rule.specs.declared.Search.{Search}
-use Rattle.search.specs.declared.Answer.{Answer}
-use Rattle.search.specs.declared.Answer.TheVariants.{Taken, Finished}
 use Rattle.search.specs.declared.Reply.{Reply}
+use Rattle.search.specs.declared.Reply.TheVariants.{Taken, Finished}
 use Rattle.search_rule.specs.Rule as rule
 use Rattle.search.specs.Replies as reply
-use Rattle.search.specs.Replies.{AskedFor, InfOfAll, replied, refused}
-use Rattle.search.specs.Calls.{Verdict, table, none, unknown, Meets, one_taken}
+use Rattle.search.specs.Replies.{next, AskedFor, InfOfAll}
+use Rattle.search.specs.Calls.{Verdict, table, none, unknown, Meets, WasTaken, one_taken}
 
 -- a table that the rule takes
 pub record Fitting (s : Search) (t : Automaton) : Type 0 where
@@ -29,29 +28,29 @@ pub data Moves (s : Search) : Verdict → Search → Type 0 where
   by_none : Moves s none (rule.none s)
   by_unknown : Moves s unknown (rule.unknown s)
 
-pub data Step (s : Search) (v : Verdict) (r : Reply) : Type 0 where
-  same : one_taken r.answer ≡ 0 → r.search ≡ s → Step s v r
-  moved : r.answer ≡ Taken → s.finished ≡ false → (t : Search) → r.search ≡ t → Moves s v t → Step s v r
+pub data Step (s : Search) (v : Verdict) (r : Result Reply Refusal) : Type 0 where
+  same : one_taken r ≡ 0 → next s r ≡ s → Step s v r
+  moved : s.finished ≡ false → (t : Search) → r ≡ Ok (Taken t) → Moves s v t → Step s v r
 
-pub counts_not : (x : Answer) → one_taken x ≡ 0 → x ≢ Taken
-counts_not x o e = omega (arith, o, ap one_taken e)
+pub counts_not : (x : Result Reply Refusal) → one_taken x ≡ 0 → ¬ WasTaken x
+counts_not x o (t, e) = omega (arith, o, ap one_taken e)
 
-module _ {s : Search} {v : Verdict} {r : Reply} where
-  turned_down : {f : Refusal} → r ≡ refused f s → Step s v r
-  turned_down e = same (ap (λ x. one_taken x.answer) e) (ap (λ x. x.search) e)
+module _ {s : Search} {v : Verdict} {r : Result Reply Refusal} where
+  turned_down : {f : Refusal} → r ≡ Err f → Step s v r
+  turned_down e = same (ap one_taken e) (ap (next s) e)
 
-  over : r ≡ replied Finished s → Step s v r
-  over e = same (ap (λ x. one_taken x.answer) e) (ap (λ x. x.search) e)
+  over : r ≡ Ok Finished → Step s v r
+  over e = same (ap one_taken e) (ap (next s) e)
 
-  goes_on : {t : Search} → s.finished ≡ false → r ≡ replied Taken t → Moves s v t → Step s v r
-  goes_on {t} h e m = moved (ap (λ x. x.answer) e) h t (ap (λ x. x.search) e) m
+  goes_on : {t : Search} → s.finished ≡ false → r ≡ Ok (Taken t) → Moves s v t → Step s v r
+  goes_on {t} h e m = moved h t e m
 
   step_told : {t : Search} → Moves s v t → reply.Told s t r → Step s v r
   step_told m (reply.outside i e c) = turned_down e
   step_told m (reply.finished i h e c) = over e
   step_told m (reply.taken i h e c) = goes_on h e m
 
-pub step : (s : Search) (v : Verdict) (r : Reply) → Meets s v r → Step s v r
+pub step : (s : Search) (v : Verdict) (r : Result Reply Refusal) → Meets s v r → Step s v r
 step s (table t p q l m) r k = go k
   where
     go : reply.Found s t p q l m r → Step s (table t p q l m) r

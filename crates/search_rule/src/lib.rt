@@ -34,18 +34,12 @@ pub fn fresh(reference: Automaton) -> Search
 pub fn found(search: Search, table: Automaton) -> Search
     ensures { result ≡ found table search }
 {
-    let reference = search.reference;
-    let mut n = search.n;
-    if n > 0 {
-        n -= 1;
-    }
+    let n = search.n.saturating_sub(1);
     Search {
-        reference,
         best: table,
         n,
-        m: search.m,
         finished: n == 0,
-        open: search.open,
+        ..search
     }
 }
 
@@ -61,26 +55,23 @@ pub fn none(search: Search) -> Search
 pub fn finish(search: Search, marked: bool) -> Search
     ensures { result ≡ ended marked search }
 {
-    let mut ended = search;
-    ended.finished = true;
-    ended.open = marked;
-    ended
+    Search {
+        finished: true,
+        open: marked,
+        ..search
+    }
 }
 
 fn rise(search: Search) -> Search
     requires { search.m < 4 }
     ensures { result ≡ risen search }
 {
-    let reference = search.reference;
-    let best = search.best;
-    let below_best = below(best.states);
+    let n = below(search.best.states);
     Search {
-        reference,
-        best,
-        n: below_best,
+        n,
         m: search.m + 1,
-        finished: below_best == 0,
-        open: search.open,
+        finished: n == 0,
+        ..search
     }
 }
 
@@ -88,11 +79,5 @@ fn rise(search: Search) -> Search
 fn below(states: usize) -> usize
     ensures { result ≡ below states }
 {
-    if states > Automaton::CANDIDATE_STATES {
-        return Automaton::CANDIDATE_STATES;
-    }
-    if states == 0 {
-        return 0;
-    }
-    states - 1
+    states.saturating_sub(1).min(Automaton::CANDIDATE_STATES)
 }

@@ -1,5 +1,5 @@
 -- WHAT A READER ANSWERS IN MID-TEXT: a piece is refused exactly where every text that begins so is refused, and with the same 9 or 10.
-use Rattle.std.specs.Prelude.{◌≡◌, ◌≢◌, ◌↔◌, Bool, true, false, List, [], ◌∷◌, ◌++◌, ℕ, ◌≤◌, ◌<◌, eqb, length}
+use Rattle.std.specs.Prelude.{◌≡◌, ◌≢◌, ◌↔◌, Bool, true, false, List, [], ◌∷◌, ◌++◌, ℕ, ◌≤◌, ◌<◌, eqb, length, Err}
 use Rattle.std.proofs.Math.Path.{sym, ap}
 use Rattle.std.proofs.Common.{subst, ◌∙◌, arith, eqb-true}
 use Rattle.automaton.specs.declared.Automaton.{Automaton}
@@ -10,7 +10,6 @@ use Rattle.clause_sizes.specs.declared.Target.{Target}
 use Rattle.clause_sizes.specs.Targets.{Proper, last, kept}
 use Rattle.solver_text.specs.declared.Reader.{Reader}
 use Rattle.solver_text.specs.declared.Reply.{Reply}
-use Rattle.solver_text.specs.declared.Answer.TheVariants.{Refused}
 use Rattle.solver_scan.specs.declared.Scan.{Scan}
 use Rattle.solver_scan.specs.declared.Place.{Place}
 use Rattle.solver_scan.specs.declared.Place.TheVariants.{BadForm, BadLiteral}
@@ -62,24 +61,24 @@ module _ (last kept : ℕ) (small : last ≤ 200000000) (fits : kept ≤ 5120) (
     unfolding final_result
     held u = ap (λ q. result_of (end last kept q)) (refused_run last kept r h u) ∙ ap result_of (refused_end last kept r h)
 
-    answer_held : ((told r).answer ≡ Refused x) ↔ (result_of r ≡ failure x)
+    answer_held : ((told r).answer ≡ Err x) ↔ (result_of r ≡ failure x)
     unfolding answer_at
     answer_held =
-        at_both r h (λ p. (answer_at p r.scan.at ≡ Refused x) ↔ (result_at p r.scan r.named ≡ failure x)) (λ e. cc, λ e. cc) (λ e. cc, λ e. cc)
+        at_both r h (λ p. (answer_at p r.scan.at ≡ Err x) ↔ (result_at p r.scan r.named ≡ failure x)) (λ e. cc, λ e. cc) (λ e. cc, λ e. cc)
 
-  refused_then : (told r).answer ≡ Refused x → AllRefused last kept text x
+  refused_then : (told r).answer ≡ Err x → AllRefused last kept text x
   refused_then e u b = by (refused_at r.scan.place) stays (λ h. let k = accepted_place r.scan.place r.scan.at h in clash (cc))
     where
       stays : refused_at r.scan.place ≡ true → outcome last kept (text ++ u) ≡ refused x
       stays h = expected_refused kept (outcome last kept (text ++ u)) x (sym (onward u) ∙ held h u ∙ (answer_held h).0 e)
 
   -- the fault lies among the bytes read
-  refused_before : (told r).answer ≡ Refused x → x ≢ SolverForm (length text)
+  refused_before : (told r).answer ≡ Err x → x ≢ SolverForm (length text)
   unfolding answer_at
   refused_before e f = by (refused_at r.scan.place) (λ h. at_both r h P form literal (text_stands last kept text) e) (λ h. let k = accepted_place r.scan.place r.scan.at h in clash (cc))
     where
       P : Place → Type 0
-      P p = Stands (length text) p r.scan.at → answer_at p r.scan.at ≡ Refused x → ⊥
+      P p = Stands (length text) p r.scan.at → answer_at p r.scan.at ≡ Err x → ⊥
 
       form : P BadForm
       form s k = let z : r.scan.at ≡ length text = cc in absurd (omega arith)
@@ -91,7 +90,7 @@ module _ (last kept : ℕ) (small : last ≤ 200000000) (fits : kept ≤ 5120) (
     fails : (u : List ℕ) → Bytes u → final_result last kept (run last kept r u) ≡ failure x
     fails u b = onward u ∙ ap (expected kept) (every u b)
 
-    refused_now : refused_at r.scan.place ≡ true → (told r).answer ≡ Refused x
+    refused_now : refused_at r.scan.place ≡ true → (told r).answer ≡ Err x
     refused_now h = (answer_held h).1 (sym (held h []) ∙ fails [] tt)
 
     -- while nothing is refused, only a text of 4,294,967,295 bytes leaves no choice: 9 at its end or at the next byte

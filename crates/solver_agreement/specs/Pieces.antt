@@ -1,5 +1,5 @@
 -- READING PIECES ONE AFTER ANOTHER IS READING WHAT THEY MAKE UP, and the reply at the end is that of the whole text.
-use Rattle.std.specs.Prelude.{◌≡◌, refl, List, [], ◌∷◌, ◌++◌, ℕ, zero, suc, get_or, replicate}
+use Rattle.std.specs.Prelude.{◌≡◌, refl, List, [], ◌∷◌, ◌++◌, ℕ, zero, suc, get_or, replicate, Ok, Err}
 use Rattle.std.proofs.Common.{sym, ap, subst, ◌∙◌, arith}
 use Rattle.automaton.specs.declared.Automaton.{Automaton}
 use Rattle.refusals.specs.declared.Refusal.{Refusal}
@@ -9,7 +9,6 @@ use Rattle.clause_sizes.specs.declared.Target.{Target}
 use Rattle.clause_sizes.specs.Targets.{Proper, last, kept}
 use Rattle.solver_text.specs.declared.Reader.{Reader}
 use Rattle.solver_text.specs.declared.Reply.{Reply}
-use Rattle.solver_text.specs.declared.Answer.TheVariants.{Accepted, Refused}
 use Rattle.solver_scan.specs.declared.Scan.{Scan}
 use Rattle.solver_scan.specs.declared.Place.{Place}
 use Rattle.solver_scan.specs.declared.Place.TheVariants.{Start, Comment, AfterS, BeforeWord, Word, AfterWord, AfterToken, BeforeToken, AfterMinus, Digits, Ended, BadForm, BadLiteral}
@@ -57,8 +56,8 @@ module _ {a : Automaton} {τ : Target} (v : Valid a) (z : Proper τ) {us : List 
 
 -- a refusal of the text, or the verdict and the table of the literals named
 pub record Tells (kept : ℕ) (x : Outcome) (e : Reply) : Type 0 where
-  pub refusal : (y : Refusal) → x ≡ refused y → e.answer ≡ Refused y
-  pub accepted : (s : Seen) → x ≡ gives s → e.answer ≡ Accepted
+  pub refusal : (y : Refusal) → x ≡ refused y → e.answer ≡ Err y
+  pub accepted : (s : Seen) → x ≡ gives s → e.answer ≡ Ok tt
   pub ended : (s : Seen) → x ≡ gives s → e.reader.scan.place ≡ Ended
   pub verdict : (s : Seen) → x ≡ gives s → e.reader.scan.verdict ≡ s.verdict
   pub named : (s : Seen) → x ≡ gives s → e.reader.named ≡ table kept s.literals
@@ -69,7 +68,7 @@ module _ (kept : ℕ) where
   unended_tells (refused y) e = clash (cc)
 
   ended_tells : (s : Scan) (t : List ℕ) (x : Outcome) → s.place ≡ Ended → result s.verdict t ≡ expected kept x
-      → Tells kept x (record { answer = Accepted; reader = at_rest s t })
+      → Tells kept x (record { answer = Ok tt; reader = at_rest s t })
   ended_tells s t (gives y) p e =
       record {
         refusal = λ z f. clash (cc);
@@ -80,7 +79,7 @@ module _ (kept : ℕ) where
       }
   ended_tells s t (refused y) p e = clash (cc)
 
-  failed_tells : (r : Reader) (y : Refusal) (x : Outcome) → failure y ≡ expected kept x → Tells kept x (record { answer = Refused y; reader = r })
+  failed_tells : (r : Reader) (y : Refusal) (x : Outcome) → failure y ≡ expected kept x → Tells kept x (record { answer = Err y; reader = r })
   failed_tells r y (gives s) e = clash (cc)
   failed_tells r y (refused z) e =
       record { refusal = λ w f. cc; accepted = λ s f. clash (cc); ended = λ s f. clash (cc); verdict = λ s f. clash (cc); named = λ s f. clash (cc) }

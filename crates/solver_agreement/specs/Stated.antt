@@ -1,5 +1,5 @@
 -- WHAT A READER HOLDS OF A TEXT THAT STATES AN ASSIGNMENT, whatever the pieces in which it came.
-use Rattle.std.specs.Prelude.{◌≡◌, Bool, List, ℕ, ◌≤◌, ◌<◌, eqb, get_or}
+use Rattle.std.specs.Prelude.{◌≡◌, Bool, List, ℕ, ◌≤◌, ◌<◌, eqb, get_or, Ok}
 use Rattle.std.proofs.Common.{sym, ap, ◌∙◌}
 use Rattle.automaton.specs.declared.Automaton.{Automaton}
 use Rattle.automaton.specs.Value.{Valid}
@@ -7,7 +7,6 @@ use Rattle.clause_sizes.specs.declared.Target.{Target}
 use Rattle.clause_sizes.specs.Targets.{Proper, last, kept}
 use Rattle.solver_text.specs.declared.Reader.{Reader}
 use Rattle.solver_text.specs.declared.Reply.{Reply}
-use Rattle.solver_text.specs.declared.Answer.TheVariants.{Accepted}
 use Rattle.solver_scan.specs.declared.Place.TheVariants.{Ended}
 use Rattle.solver_scan.specs.declared.Verdict.TheVariants.{Satisfiable}
 use Rattle.solver_agreement.specs.Assignment.{States}
@@ -19,7 +18,7 @@ use Rattle.solver_agreement.specs.Pieces.{whole_text}
 
 -- the step and mark variables that are true by the table are those that the assignment says yes to
 pub record Holds (kept : ℕ) (assignment : ℕ → Bool) (e : Reply) : Type 0 where
-  pub accepted : e.answer ≡ Accepted
+  pub accepted : e.answer ≡ Ok tt
   pub ended : e.reader.scan.place ≡ Ended
   pub verdict : e.reader.scan.verdict ≡ Satisfiable
   pub named : (v : ℕ) → 0 < v → v ≤ kept → eqb (get_or e.reader.named v 0) 1 ≡ assignment v

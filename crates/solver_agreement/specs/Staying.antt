@@ -1,10 +1,9 @@
 -- "REFUSED SOLVER TEXT STAYS REFUSED": no byte and no end of the text changes the state, and the answer tells it.
-use Rattle.std.specs.Prelude.{◌≡◌, ◌⊎◌, true, false, cond, List, [], ◌∷◌, ℕ, eqb}
+use Rattle.std.specs.Prelude.{◌≡◌, ◌⊎◌, true, false, cond, List, [], ◌∷◌, ℕ, eqb, Ok}
 use Rattle.std.proofs.Math.Path.{refl}
 use Rattle.std.proofs.Common.{sym, ap, subst, ◌∙◌, inl, inr, ⊎_elim, true≢false}
 use Rattle.std.proofs.lemmas.Bool.{false≢true}
 use Rattle.solver_text.specs.declared.Reader.{Reader}
-use Rattle.solver_text.specs.declared.Answer.TheVariants.{Accepted}
 use Rattle.solver_scan.specs.declared.Scan.{Scan}
 use Rattle.solver_scan.specs.declared.Place.{Place}
 use Rattle.solver_scan.specs.declared.Place.TheVariants.{Start, Comment, AfterS, BeforeWord, Word, AfterWord, AfterToken, BeforeToken, AfterMinus, Digits, Ended, BadForm, BadLiteral}
@@ -30,7 +29,7 @@ refused_place BadForm h = inl refl
 refused_place BadLiteral h = inr refl
 
 -- at every other nothing is turned down
-pub accepted_place : (p : Place) (at : ℕ) → refused_at p ≡ false → answer_at p at ≡ Accepted
+pub accepted_place : (p : Place) (at : ℕ) → refused_at p ≡ false → answer_at p at ≡ Ok tt
 unfolding refused_at answer_at
 accepted_place Start at h = refl
 accepted_place Comment at h = refl

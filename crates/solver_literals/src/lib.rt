@@ -39,17 +39,14 @@ fn literal_of(minus: bool, v: u32) -> i32
     requires { v < 2 ^ 31 }
     ensures { result ≡ literal_of minus v }
 {
-    if minus {
-        return -(v as i32);
-    }
-    v as i32
+    if minus { -(v as i32) } else { v as i32 }
 }
 
 fn place(literal: i32, named: &mut [u8; SLOTS]) -> bool
     requires { nat_abs literal ≤ 5120 }
     ensures { Placed literal named.old result named.new }
 {
-    let i = variable(literal) as usize;
+    let i = literal.unsigned_abs() as usize;
     if named[i] == 0 {
         named[i] = mark(literal);
         return true;
@@ -57,22 +54,9 @@ fn place(literal: i32, named: &mut [u8; SLOTS]) -> bool
     false
 }
 
-fn variable(literal: i32) -> u32
-    requires { nat_abs literal < 2 ^ 31 }
-    ensures { result ≡ nat_abs literal }
-{
-    if literal < 0 {
-        return (-literal) as u32;
-    }
-    literal as u32
-}
-
 // 1 for true, 2 for false.
 fn mark(literal: i32) -> u8
     ensures { result ≡ mark_of literal }
 {
-    if literal < 0 {
-        return 2;
-    }
-    1
+    if literal < 0 { 2 } else { 1 }
 }

@@ -5,6 +5,7 @@ ghost use Rattle.solver_scan.specs.Places.{judged_place, end_place};
 use crate::{Place, Verdict};
 
 // No `s` line, SATISFIABLE without the 0, or another verdict with a `v` line: 9.
+#[tactic(auto, unfolding(crate::specs::Places::judged_place))]
 pub fn judged(v: Verdict, listed: bool, closed: bool) -> Place
     ensures { result ≡ judged_place v listed closed }
 {
@@ -17,6 +18,7 @@ pub fn judged(v: Verdict, listed: bool, closed: bool) -> Place
 }
 
 // `fine` is where a text is that may end here.
+#[tactic(auto, unfolding(crate::specs::Places::end_place))]
 pub fn end_place(place: Place, fine: Place, spelt: bool) -> Place
     ensures { result ≡ end_place place fine spelt }
 {

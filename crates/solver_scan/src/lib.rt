@@ -76,25 +76,23 @@ pub struct Scan {
 pub fn scan_byte(s: Scan, b: u8) -> Scan
     ensures { result ≡ scan_byte s b }
 {
-    let place = s.place;
-    let v = s.verdict;
-    if s.at == 4294967295 {
-        return at_limit(s, place);
+    if s.at == u32::MAX {
+        return at_limit(s);
     }
     match b {
-        b' ' => taken(s, after_blank(place, v, s.letters)),
-        b'\t' => taken(s, after_blank(place, v, s.letters)),
-        b'\n' => taken(s, after_line_feed(place, v, s.letters)),
+        b' ' => taken(s, after_blank(s.place, s.verdict, s.letters)),
+        b'\t' => taken(s, after_blank(s.place, s.verdict, s.letters)),
+        b'\n' => taken(s, after_line_feed(s.place, s.verdict, s.letters)),
         _ => other_byte(s, b),
     }
 }
 
-fn at_limit(s: Scan, place: Place) -> Scan
-    ensures { result ≡ at_limit place s }
+#[tactic(auto, unfolding(crate::specs::Scanning::at_limit, crate::specs::Scanning::refused_at))]
+fn at_limit(s: Scan) -> Scan
+    ensures { result ≡ at_limit s.place s }
 {
-    match place {
-        Place::BadForm => s,
-        Place::BadLiteral => s,
+    match s.place {
+        Place::BadForm | Place::BadLiteral => s,
         _ => malformed(s),
     }
 }
@@ -103,19 +101,9 @@ fn at_limit(s: Scan, place: Place) -> Scan
 pub fn scan_end(s: Scan) -> Scan
     ensures { result ≡ scan_end s }
 {
-    let verdict = s.verdict;
-    let fine = judged(verdict, s.listed, s.closed);
-    let before = s.place;
-    let place = end_place(before, fine, spelt(verdict, s.letters));
+    let fine = judged(s.verdict, s.listed, s.closed);
     Scan {
-        place,
-        at: s.at,
-        verdict,
-        letters: s.letters,
-        listed: s.listed,
-        closed: s.closed,
-        from: s.from,
-        minus: s.minus,
-        value: s.value,
+        place: end_place(s.place, fine, spelt(s.verdict, s.letters)),
+        ..s
     }
 }

@@ -10,27 +10,20 @@ pub fn taken(s: Scan, p: Place) -> Scan
     requires { s.at < 4294967295 }
     ensures { result ≡ taken s p }
 {
-    let verdict = s.verdict;
     Scan {
         place: p,
         at: offset(p, s.at),
-        verdict,
-        letters: s.letters,
-        listed: s.listed,
-        closed: s.closed,
-        from: s.from,
-        minus: s.minus,
-        value: s.value,
+        ..s
     }
 }
 
+#[tactic(auto, unfolding(crate::specs::Places::offset, crate::specs::Scanning::refused_at))]
 fn offset(p: Place, at: u32) -> u32
     requires { at < 4294967295 }
     ensures { result ≡ offset p at }
 {
     match p {
-        Place::BadForm => at,
-        Place::BadLiteral => at,
+        Place::BadForm | Place::BadLiteral => at,
         _ => at + 1,
     }
 }
@@ -45,11 +38,7 @@ pub fn spelled(s: Scan, v: Verdict, n: u8) -> Scan
         at: s.at + 1,
         verdict: v,
         letters: n,
-        listed: s.listed,
-        closed: s.closed,
-        from: s.from,
-        minus: s.minus,
-        value: s.value,
+        ..s
     }
 }
 
@@ -58,17 +47,11 @@ pub fn opened(s: Scan) -> Scan
     requires { s.at < 4294967295 }
     ensures { result ≡ list s }
 {
-    let verdict = s.verdict;
     Scan {
         place: Place::AfterToken,
         at: s.at + 1,
-        verdict,
-        letters: s.letters,
         listed: true,
-        closed: s.closed,
-        from: s.from,
-        minus: s.minus,
-        value: s.value,
+        ..s
     }
 }
 
@@ -77,17 +60,11 @@ pub fn shut(s: Scan) -> Scan
     requires { s.at < 4294967295 }
     ensures { result ≡ close s }
 {
-    let verdict = s.verdict;
     Scan {
         place: Place::AfterToken,
         at: s.at + 1,
-        verdict,
-        letters: s.letters,
-        listed: s.listed,
         closed: true,
-        from: s.from,
-        minus: s.minus,
-        value: s.value,
+        ..s
     }
 }
 
@@ -96,17 +73,13 @@ pub fn begun(s: Scan, p: Place, minus: bool, value: u32) -> Scan
     requires { s.at < 4294967295 }
     ensures { result ≡ begin s p minus value }
 {
-    let verdict = s.verdict;
     Scan {
         place: p,
         at: s.at + 1,
-        verdict,
-        letters: s.letters,
-        listed: s.listed,
-        closed: s.closed,
         from: s.at,
         minus,
         value,
+        ..s
     }
 }
 
@@ -115,17 +88,11 @@ pub fn valued(s: Scan, value: u32) -> Scan
     requires { s.at < 4294967295 }
     ensures { result ≡ count s value }
 {
-    let verdict = s.verdict;
     Scan {
         place: Place::Digits,
         at: s.at + 1,
-        verdict,
-        letters: s.letters,
-        listed: s.listed,
-        closed: s.closed,
-        from: s.from,
-        minus: s.minus,
         value,
+        ..s
     }
 }
 
@@ -133,16 +100,8 @@ pub fn valued(s: Scan, value: u32) -> Scan
 pub fn malformed(s: Scan) -> Scan
     ensures { result ≡ bad s }
 {
-    let verdict = s.verdict;
     Scan {
         place: Place::BadForm,
-        at: s.at,
-        verdict,
-        letters: s.letters,
-        listed: s.listed,
-        closed: s.closed,
-        from: s.from,
-        minus: s.minus,
-        value: s.value,
+        ..s
     }
 }

@@ -5,6 +5,7 @@ ghost use Rattle.solver_scan.specs.Places.{after_blank, after_line_feed};
 use crate::words::spelt;
 use crate::{Place, Verdict};
 
+#[tactic(auto, unfolding(crate::specs::Places::after_blank))]
 pub fn after_blank(place: Place, v: Verdict, n: u8) -> Place
     ensures { result ≡ after_blank place v n }
 {
@@ -29,6 +30,7 @@ pub fn after_blank(place: Place, v: Verdict, n: u8) -> Place
     }
 }
 
+#[tactic(auto, unfolding(crate::specs::Places::after_line_feed))]
 pub fn after_line_feed(place: Place, v: Verdict, n: u8) -> Place
     ensures { result ≡ after_line_feed place v n }
 {

@@ -7,12 +7,12 @@ use crate::moves::{begun, malformed, opened, shut, spelled, taken, valued};
 use crate::words::{goes_on, turns, unstated};
 use crate::{Place, Scan, Verdict};
 
+#[tactic(auto, unfolding(crate::specs::Places::other_byte, crate::specs::Places::offset, crate::specs::Scanning::refused_at))]
 pub fn other_byte(s: Scan, b: u8) -> Scan
     requires { s.at < 4294967295 }
     ensures { result ≡ other_byte s.place s b }
 {
-    let place = s.place;
-    match place {
+    match s.place {
         Place::Start => start_byte(s, b),
         Place::Comment => taken(s, Place::Comment),
         Place::BeforeWord => first_letter(s, b),
@@ -20,20 +20,19 @@ pub fn other_byte(s: Scan, b: u8) -> Scan
         Place::BeforeToken => token_byte(s, b),
         Place::AfterMinus => after_minus(s, b),
         Place::Digits => digit(s, b),
-        Place::BadForm => s,
-        Place::BadLiteral => s,
+        Place::BadForm | Place::BadLiteral => s,
         _ => malformed(s),
     }
 }
 
+#[tactic(auto, unfolding(crate::specs::Places::offset, crate::specs::Scanning::refused_at))]
 fn start_byte(s: Scan, b: u8) -> Scan
     requires { s.at < 4294967295 }
     ensures { result ≡ start_byte s b }
 {
-    let v = s.verdict;
     match b {
         b'c' => taken(s, Place::Comment),
-        b's' => if unstated(v) {
+        b's' => if unstated(s.verdict) {
             taken(s, Place::AfterS)
         } else {
             malformed(s)
@@ -54,21 +53,22 @@ fn first_letter(s: Scan, b: u8) -> Scan
     }
 }
 
+#[tactic(auto, unfolding(crate::specs::Scanning::next_letter))]
 fn next_letter(s: Scan, b: u8) -> Scan
     requires { s.at < 4294967295 }
     ensures { result ≡ next_letter s b }
 {
-    let v = s.verdict;
-    if goes_on(v, s.letters, b) {
-        return spelled(s, v, s.letters + 1);
+    if goes_on(s.verdict, s.letters, b) {
+        return spelled(s, s.verdict, s.letters + 1);
     }
-    if turns(v, s.letters, b) {
+    if turns(s.verdict, s.letters, b) {
         return spelled(s, Verdict::Unknown, 3);
     }
     malformed(s)
 }
 
 // Unless the 0 came before.
+#[tactic(auto, unfolding(crate::specs::Scanning::token_byte))]
 fn token_byte(s: Scan, b: u8) -> Scan
     requires { s.at < 4294967295 }
     ensures { result ≡ token_byte s b }
@@ -79,6 +79,7 @@ fn token_byte(s: Scan, b: u8) -> Scan
     first_byte(s, b)
 }
 
+#[tactic(auto, unfolding(crate::specs::Scanning::first_byte, crate::specs::SolverText::digit19))]
 fn first_byte(s: Scan, b: u8) -> Scan
     requires { s.at < 4294967295 }
     ensures { result ≡ first_byte s b }
@@ -86,41 +87,38 @@ fn first_byte(s: Scan, b: u8) -> Scan
     match b {
         b'-' => begun(s, Place::AfterMinus, true, 0),
         b'0' => shut(s),
-        b'1'..=b'9' => begun(s, Place::Digits, false, wide(b - b'0')),
+        b'1'..=b'9' => begun(s, Place::Digits, false, u32::from(b - b'0')),
         _ => malformed(s),
     }
 }
 
+#[tactic(auto, unfolding(crate::specs::Scanning::past_minus, crate::specs::SolverText::digit19))]
 fn after_minus(s: Scan, b: u8) -> Scan
     requires { s.at < 4294967295 }
     ensures { result ≡ past_minus s b }
 {
     match b {
-        b'1'..=b'9' => valued(s, wide(b - b'0')),
+        b'1'..=b'9' => valued(s, u32::from(b - b'0')),
         _ => malformed(s),
     }
 }
 
+#[tactic(auto, unfolding(crate::specs::SolverText::digit))]
 fn digit(s: Scan, b: u8) -> Scan
     requires { s.at < 4294967295 }
     ensures { result ≡ digit_byte s b }
 {
     match b {
-        b'0'..=b'9' => valued(s, grown(s.value, wide(b - b'0'))),
+        b'0'..=b'9' => valued(s, grown(s.value, u32::from(b - b'0'))),
         _ => malformed(s),
     }
 }
 
 // Numbers past 200,000,000 are past the last variable of any file, and are not told apart, so that a literal fits 32 bits.
+#[tactic(auto, unfolding(crate::specs::Scanning::grow))]
 fn grown(w: u32, d: u32) -> u32
     requires { d < 10 }
     ensures { result ≡ grow w d }
 {
     if w <= 200000000 { w * 10 + d } else { w }
-}
-
-fn wide(b: u8) -> u32
-    ensures { result ≡ b }
-{
-    b as u32
 }

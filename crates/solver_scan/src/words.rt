@@ -15,15 +15,11 @@ const UNKNOWN: [u8; 7] = *b"UNKNOWN";
 pub fn unstated(v: Verdict) -> bool
     ensures { result ≡ unstated v }
 {
-    match v {
-        Verdict::Unstated => true,
-        Verdict::Satisfiable => false,
-        Verdict::Unsatisfiable => false,
-        Verdict::Unknown => false,
-    }
+    matches!(v, Verdict::Unstated)
 }
 
 // Whether n letters are all that the verdict has.
+#[tactic(auto, unfolding(crate::specs::Scanning::spelt))]
 pub fn spelt(v: Verdict, n: u8) -> bool
     ensures { result ≡ spelt v n }
 {
@@ -50,27 +46,14 @@ pub fn goes_on(v: Verdict, n: u8, b: u8) -> bool
 fn follows(word: &[u8], n: u8, b: u8) -> bool
     ensures { result ≡ follows word.now n b }
 {
-    let i = n as usize;
-    if i >= word.len() {
-        return false;
-    }
-    b == word[i]
+    let i = usize::from(n);
+    i < word.len() && word[i] == b
 }
 
 // Whether UN goes on as UNKNOWN.
+#[tactic(auto, unfolding(crate::specs::Scanning::turns))]
 pub fn turns(v: Verdict, n: u8, b: u8) -> bool
     ensures { result ≡ turns v n b }
 {
-    if n != 2 {
-        return false;
-    }
-    if b != b'K' {
-        return false;
-    }
-    match v {
-        Verdict::Unstated => false,
-        Verdict::Satisfiable => false,
-        Verdict::Unsatisfiable => true,
-        Verdict::Unknown => false,
-    }
+    n == 2 && b == b'K' && matches!(v, Verdict::Unsatisfiable)
 }

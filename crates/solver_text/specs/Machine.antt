@@ -1,7 +1,8 @@
 -- DEFINITION: what a reader makes of each byte and of the end of the text, from every state: it scans the lines (`Scanning` in crate `solver_scan`) and
 -- judges each literal that ends (`Giving` in crate `solver_literals`). On whole texts this is the definition in `SolverText` (law `agrees` in crate
 -- `solver_agreement`), and before the end it turns down just what that definition turns down however the text goes on (law `refused_exactly` there).
-use Rattle.std.specs.Prelude.{Bool, true, false, cond, ◌&&◌, List, [], ◌∷◌, ℕ, replicate}
+use Rattle.std.specs.Prelude.{Bool, true, false, cond, ◌&&◌, List, [], ◌∷◌, ℕ, replicate, Result, Ok, Err}
+use Rattle.refusals.specs.declared.Refusal.{Refusal}
 use Rattle.refusals.specs.declared.Refusal.TheVariants.{SolverForm, Literal}
 use Rattle.solver_scan.specs.declared.Scan.{Scan}
 use Rattle.solver_scan.specs.declared.Place.{Place}
@@ -12,8 +13,6 @@ use Rattle.solver_scan.specs.Scanning.{scan, scan_byte, scan_end_at}
 use Rattle.solver_literals.specs.Giving.{fits, given}
 use Rattle.solver_text.specs.declared.Reader.{Reader}
 use Rattle.solver_text.specs.declared.Reply.{Reply}
-use Rattle.solver_text.specs.declared.Answer.{Answer}
-use Rattle.solver_text.specs.declared.Answer.TheVariants.{Accepted, Refused}
 
 abbrev pub at_rest : Scan → List ℕ → Reader
 at_rest s t = record { scan = s; named = t }
@@ -91,20 +90,20 @@ end last kept r = end_at r.scan.place last kept r.scan r.named
 
 -- ---- the answer
 
-unfoldable pub answer_at : Place → ℕ → Answer
-answer_at Start at = Accepted
-answer_at Comment at = Accepted
-answer_at AfterS at = Accepted
-answer_at BeforeWord at = Accepted
-answer_at Word at = Accepted
-answer_at AfterWord at = Accepted
-answer_at AfterToken at = Accepted
-answer_at BeforeToken at = Accepted
-answer_at AfterMinus at = Accepted
-answer_at Digits at = Accepted
-answer_at Ended at = Accepted
-answer_at BadForm at = Refused (SolverForm at)
-answer_at BadLiteral at = Refused (Literal at)
+unfoldable pub answer_at : Place → ℕ → Result (Unit {0}) Refusal
+answer_at Start at = Ok tt
+answer_at Comment at = Ok tt
+answer_at AfterS at = Ok tt
+answer_at BeforeWord at = Ok tt
+answer_at Word at = Ok tt
+answer_at AfterWord at = Ok tt
+answer_at AfterToken at = Ok tt
+answer_at BeforeToken at = Ok tt
+answer_at AfterMinus at = Ok tt
+answer_at Digits at = Ok tt
+answer_at Ended at = Ok tt
+answer_at BadForm at = Err (SolverForm at)
+answer_at BadLiteral at = Err (Literal at)
 
 abbrev pub told : Reader → Reply
 told r = record { answer = answer_at r.scan.place r.scan.at; reader = r }

@@ -5,9 +5,9 @@ ghost use Rattle.clause_sizes.specs.Numbers.{last_variable};
 ghost use Rattle.solver_text.specs.Calls.{InRange, refusal};
 ghost use Rattle.solver_text.specs.Objection.{Judged};
 
-use crate::{Answer, Reader, Reply};
+use crate::{Reader, Reply};
 use automaton::Automaton;
-use clause_sizes::{Sized, Sizes, Target, last_variable, measure};
+use clause_sizes::{Sizes, Target, last_variable, measure};
 use refusals::Refusal;
 
 // The last variable of the file, and the last step or mark variable.
@@ -17,34 +17,23 @@ pub struct Variables {
     pub kept: u32,
 }
 
-// What a piece is read with: two numbers, and not all sizes, since the loop over its bytes was measured to be faster so.
-#[derive(Clone, Copy)]
-pub enum File {
-    Of(Variables),
-    Refused(Refusal),
-}
-
-// 4 for the state or the automaton, 8, 4 for the named acceptance; or the numbers of the file.
-pub fn judge(reader: Reader, reference: Automaton, target: Target) -> File
+// 4 for the state or the automaton, 8, 4 for the named acceptance; or the numbers of the file. Two numbers, and not all sizes, since
+// the loop over the bytes of a piece was measured to be faster so.
+pub fn judge(reader: Reader, reference: Automaton, target: Target) -> Result<Variables, Refusal>
     ensures { Judged reference target reader result }
 {
     if !in_range(reader) {
-        return File::Refused(Refusal::Outside);
+        return Err(Refusal::Outside);
     }
-    let sized = measure(reference, target);
-    let answer = sized.answer;
-    let sizes = sized.sizes;
-    match answer {
-        Sized::Of(last) => File::Of(variables_of(sizes)),
-        Sized::Refused(x) => File::Refused(x),
-    }
+    let measured = measure(reference, target)?;
+    Ok(variables_of(measured.sizes))
 }
 
 pub fn refused(x: Refusal, reader: Reader) -> Reply
     ensures { result ≡ refusal x reader }
 {
     Reply {
-        answer: Answer::Refused(x),
+        answer: Err(x),
         reader,
     }
 }
@@ -52,31 +41,16 @@ pub fn refused(x: Refusal, reader: Reader) -> Reply
 fn in_range(reader: Reader) -> bool
     ensures { (result ≡ true) ↔ InRange reader }
 {
-    let scan = reader.scan;
-    if scan.letters > 13 {
-        return false;
-    }
-    if scan.value > 2000000009 {
-        return false;
-    }
-    let named = reader.named;
-    entries_fit(&named)
+    reader.scan.letters <= 13 && reader.scan.value <= 2000000009 && entries_fit(&reader.named)
 }
 
 fn entries_fit(named: &[u8; Reader::SLOTS]) -> bool
     ensures { (result ≡ true) ↔ ((v : ℕ) → v < 5121 → get_or named.now v 0 ≤ 2) }
 {
-    let mut v: usize = 0;
-    while v < Reader::SLOTS {
-        if named[v] > 2 {
-            return false;
-        }
-        v += 1;
-    }
-    true
+    named.iter().all(|entry| *entry <= 2)
 }
 
-// V once more, though the answer has it: with the answer's, the compiler put `judge` into the function with the loop, which was
+// V once more, though `measure` has it: with that one, the compiler put `judge` into the function with the loop, which was
 // then measured to take 1.6 times as long.
 fn variables_of(z: Sizes) -> Variables
     requires { Fitting z }

@@ -7,7 +7,7 @@ ghost use Rattle.solver_text.specs.Calls.{Called};
 ghost use Rattle.solver_text.specs.Machine.{fresh, run, end, told, at_rest, answer_at};
 
 use automaton::Automaton;
-use call::{File, Variables};
+use call::Variables;
 use clause_sizes::Target;
 use refusals::Refusal;
 use solver_scan::{Place, Scan, Verdict};
@@ -23,15 +23,10 @@ pub struct Reader {
     pub named: [u8; Reader::SLOTS],
 }
 
-#[derive(Clone, Copy)]
-pub enum Answer {
-    Accepted,
-    Refused(Refusal),
-}
-
+// Whether the text so far is refused, and the reader for the next call, on a refusal too.
 #[derive(Clone, Copy)]
 pub struct Reply {
-    pub answer: Answer,
+    pub answer: Result<(), Refusal>,
     pub reader: Reader,
 }
 
@@ -63,8 +58,8 @@ impl Reader {
         ensures { Called reference target self (told (run (last reference target) (kept reference target) self piece.now)) result }
     {
         match call::judge(self, reference, target) {
-            File::Of(file) => read_piece(self, piece, file),
-            File::Refused(x) => call::refused(x, self),
+            Ok(file) => read_piece(self, piece, file),
+            Err(refusal) => call::refused(refusal, self),
         }
     }
 
@@ -73,8 +68,8 @@ impl Reader {
         ensures { Called reference target self (told (end (last reference target) (kept reference target) self)) result }
     {
         match call::judge(self, reference, target) {
-            File::Of(file) => end_text(self, file),
-            File::Refused(x) => call::refused(x, self),
+            Ok(file) => end_text(self, file),
+            Err(refusal) => call::refused(refusal, self),
         }
     }
 }
@@ -82,37 +77,36 @@ impl Reader {
 fn read_piece(reader: Reader, piece: &[u8], file: Variables) -> Reply
     ensures { result ≡ told (run file.last file.kept reader piece.now) }
 {
-    let before = reader.scan;
     let mut named = reader.named;
-    let after = reading::feed(before, piece, &mut named, file.last, file.kept);
+    let after = reading::feed(reader.scan, piece, &mut named, file.last, file.kept);
     replied(after, named)
 }
 
 fn end_text(reader: Reader, file: Variables) -> Reply
     ensures { result ≡ told (end file.last file.kept reader) }
 {
-    let before = reader.scan;
     let mut named = reader.named;
-    let after = reading::end(before, &mut named, file.last, file.kept);
+    let after = reading::end(reader.scan, &mut named, file.last, file.kept);
     replied(after, named)
 }
 
 fn replied(scan: Scan, named: [u8; Reader::SLOTS]) -> Reply
     ensures { result ≡ told (at_rest scan named) }
 {
-    let answer = answer_at(scan);
-    let reader = Reader { scan, named };
-    Reply { answer, reader }
+    Reply {
+        answer: answer_at(scan),
+        reader: Reader { scan, named },
+    }
 }
 
 // 9 and 10, with their offsets.
-fn answer_at(scan: Scan) -> Answer
+#[tactic(auto, unfolding(crate::specs::Machine::answer_at))]
+fn answer_at(scan: Scan) -> Result<(), Refusal>
     ensures { result ≡ answer_at scan.place scan.at }
 {
-    let place = scan.place;
-    match place {
-        Place::BadForm => Answer::Refused(Refusal::SolverForm(scan.at as usize)),
-        Place::BadLiteral => Answer::Refused(Refusal::Literal(scan.at as usize)),
-        _ => Answer::Accepted,
+    match scan.place {
+        Place::BadForm => Err(Refusal::SolverForm(scan.at as usize)),
+        Place::BadLiteral => Err(Refusal::Literal(scan.at as usize)),
+        _ => Ok(()),
     }
 }

@@ -11,10 +11,8 @@ pub fn feed(s: Scan, piece: &[u8], named: &mut [u8; Reader::SLOTS], last: u32, k
     ensures { at_rest result named.new ≡ run last kept (at_rest s named.old) piece.now }
 {
     let mut u = s;
-    let mut i = 0;
-    while i < piece.len() {
-        u = step(u, piece[i], named, last, kept);
-        i += 1;
+    for b in piece {
+        u = step(u, *b, named, last, kept);
     }
     u
 }
@@ -23,9 +21,7 @@ fn step(s: Scan, b: u8, named: &mut [u8; Reader::SLOTS], last: u32, kept: u32) -
     ensures { at_rest result named.new ≡ step last kept s named.old b }
 {
     let next = scan_byte(s, b);
-    let before = s.place;
-    let after = next.place;
-    if ends_literal(before, after) {
+    if ends_literal(s.place, next.place) {
         return end_literal(s, next, named, last, kept);
     }
     next
@@ -36,31 +32,25 @@ pub fn end(s: Scan, named: &mut [u8; Reader::SLOTS], last: u32, kept: u32) -> Sc
     ensures { at_rest result named.new ≡ end last kept (at_rest s named.old) }
 {
     let ended = scan_end(s);
-    let place = s.place;
-    if in_literal(place) {
+    if in_literal(s.place) {
         return end_literal(s, ended, named, last, kept);
     }
     ended
 }
 
 // Whether a literal ends where a scan goes from one place to another.
+#[tactic(auto, unfolding(crate::specs::Machine::ends_literal, crate::specs::Machine::separated))]
 fn ends_literal(before: Place, after: Place) -> bool
     ensures { result ≡ ends_literal before after }
 {
-    match after {
-        Place::Start => in_literal(before),
-        Place::BeforeToken => in_literal(before),
-        _ => false,
-    }
+    matches!(after, Place::Start | Place::BeforeToken) && in_literal(before)
 }
 
+#[tactic(auto, unfolding(crate::specs::Machine::in_literal))]
 fn in_literal(place: Place) -> bool
     ensures { result ≡ in_literal place }
 {
-    match place {
-        Place::Digits => true,
-        _ => false,
-    }
+    matches!(place, Place::Digits)
 }
 
 // The literal that the scan has read ends here. If nothing speaks against it, the scan goes on as `next`.
@@ -77,16 +67,9 @@ fn end_literal(s: Scan, next: Scan, named: &mut [u8; Reader::SLOTS], last: u32, 
 fn unfit(s: Scan) -> Scan
     ensures { result ≡ unfitting s }
 {
-    let verdict = s.verdict;
     Scan {
         place: Place::BadLiteral,
         at: s.from,
-        verdict,
-        letters: s.letters,
-        listed: s.listed,
-        closed: s.closed,
-        from: s.from,
-        minus: s.minus,
-        value: s.value,
+        ..s
     }
 }

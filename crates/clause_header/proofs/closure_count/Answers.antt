@@ -7,41 +7,20 @@ use Rattle.clause_header.proofs.Counting.{transitions_le, step_lt, transition_co
 use native.Mathlib.Omega.{arith}
 use Rattle.clause_header.proofs.closure_count.Goals as goal
 
-pub overflow_mul-transitions : goal.overflow_mul-transitions
-overflow_mul-transitions c = omega (arith, transitions_le c.requires.0)
-
-pub yes_pairs-accepted-requires : goal.yes_pairs-accepted-requires
-yes_pairs-accepted-requires c = c.requires.0
-
 pub loop-y-init : goal.loop-y-init
-loop-y-init c = (omega arith, total_none _, omega arith)
-
-pub nonzero_div-v : goal.nonzero_div-v
-nonzero_div-v c = omega (arith, c.requires.0.letters_some)
-
-pub nonzero_rem-l : goal.nonzero_rem-l
-nonzero_rem-l c = omega (arith, c.requires.0.letters_some)
+loop-y-init c = (total_none _, omega arith)
 
 pub closures_from-count-requires : goal.closures_from-count-requires
 closures_from-count-requires c =
-    (c.requires.0, c.yes_pairs-accepted.ensures.1, step_lt c.requires.0 c.args.destinations.now _ c.loop-y-test.true c.requires.1 c.entry.ensures)
-
-pub overflow_add-count : goal.overflow_add-count
-overflow_add-count c = omega (arith, transitions_le c.requires.0, c.closures_from-count.ensures.1)
-
-pub overflow_add-y : goal.overflow_add-y
-overflow_add-y c = omega (arith, transitions_le c.requires.0)
-
-pub loop-y-smaller : goal.loop-y-smaller
-loop-y-smaller c = omega arith
+    (c.requires.0, c.yes_pairs-accepted.ensures.1, step_lt c.requires.0 c.args.destinations.now _ (omega arith) c.requires.1 c.entry.ensures)
 
 pub loop-y-preserved : goal.loop-y-preserved
 loop-y-preserved c =
-    let one = transition_counted c.requires.0 c.args.destinations.now _ c.loop-y-test.true c.args.marks.now _
+    let one = transition_counted c.requires.0 c.args.destinations.now _ (omega arith) c.args.marks.now _
     c.entry.ensures c.entry-in-loop-y.ensures c.closures_from-count.ensures.0 in
-    (omega arith, total_more _ _ c.loop-y.invariant.1 one, omega (arith, c.closures_from-count.ensures.1))
+    (total_more _ _ c.loop-y.invariant.0 one, omega (arith, c.closures_from-count.ensures.1))
 
 pub returns : goal.returns
 returns c =
     let e : c.loop-y.y ≡ c.args.z.reference.states * c.args.z.letters = omega arith in
-    (c.loop-y.invariant.1 ∙ ap₂ (λ i k. total i (closures_at c.args.z c.args.destinations.now c.args.marks.now k)) e c.yes_pairs-accepted.ensures.0, omega (arith, transitions_le c.requires.0))
+    (c.loop-y.invariant.0 ∙ ap₂ (λ i k. total i (closures_at c.args.z c.args.destinations.now c.args.marks.now k)) e c.yes_pairs-accepted.ensures.0, omega (arith, transitions_le c.requires.0))

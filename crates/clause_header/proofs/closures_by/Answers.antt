@@ -10,23 +10,12 @@ use native.Mathlib.Omega.{arith}
 use Rattle.clause_header.proofs.closures_by.Goals as goal
 
 pub loop-j-init : goal.loop-j-init
-loop-j-init c = (omega arith, total_none _, omega arith)
-
-pub pairs_for-count-requires : goal.pairs_for-count-requires
-pairs_for-count-requires c = c.requires
-
-pub overflow_add-count : goal.overflow_add-count
-overflow_add-count c = omega (arith, reference_subsets_le c.requires.0, c.pairs_for-count.ensures.1)
-
-pub overflow_add-j : goal.overflow_add-j
-overflow_add-j c = omega (arith, reference_subsets_le c.requires.0)
-
-pub loop-j-smaller : goal.loop-j-smaller
-loop-j-smaller c = omega arith
+loop-j-init c = (total_none _, omega arith)
 
 pub loop-j-preserved : goal.loop-j-preserved
-loop-j-preserved c = (omega arith, total_more _ _ c.loop-j.invariant.1 c.pairs_for-count.ensures.0, omega (arith, c.pairs_for-count.ensures.1))
+loop-j-preserved c = (total_more _ _ c.loop-j.invariant.0 c.pairs_for-count.ensures.0, omega (arith, c.pairs_for-count.ensures.1))
 
 pub returns : goal.returns
-returns c = let e : c.loop-j.j ≡ 2 ^ c.args.z.reference.sets = omega (arith, c.requires.0.reference_subsets) in
-    (c.loop-j.invariant.1 ∙ ap (λ k. total k (λ i. pairs_for c.args.z c.args.accepted (i ∪ c.args.f))) e, omega (arith, reference_subsets_le c.requires.0))
+returns c =
+    let e : c.loop-j.j ≡ 2 ^ c.args.z.reference.sets = omega (arith, c.requires.0.reference_subsets) in
+    (c.loop-j.invariant.0 ∙ ap (λ k. total k (λ i. pairs_for c.args.z c.args.accepted (i ∪ c.args.f))) e, omega (arith, reference_subsets_le c.requires.0))

@@ -4,12 +4,6 @@ use native.Mathlib.Omega.{arith}
 use Rattle.clause_header.proofs.Counting.{pairs_le, pairs_no, pairs_yes}
 use Rattle.clause_header.proofs.pairs_for.Goals as goal
 
-pub overflow_mul-result : goal.overflow_mul-result
-overflow_mul-result c = omega (arith, pairs_le c.requires.0)
-
-pub overflow_sub-result : goal.overflow_sub-result
-overflow_sub-result c = omega (arith, c.requires.1)
-
 pub returns-then-has : goal.returns-then-has
 returns-then-has c = (pairs_no c.requires.0 _ _ (sym c.has.ensures ∙ c.if-has.true), omega (arith, pairs_le c.requires.0))
 

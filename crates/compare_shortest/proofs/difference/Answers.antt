@@ -17,15 +17,6 @@ returns-then-not-in_range c = answered_unfit (λ f. fails_not c.in_range.ensures
 pub returns-then-not-in_range-2 : goal.returns-then-not-in_range-2
 returns-then-not-in_range-2 c = answered_unfit (λ f. fails_not c.in_range-2.ensures (ap not c.if-not-in_range-2.true) f.second)
 
-pub first_word-requires : goal.first_word-requires
-first_word-requires c =
-    let fit : Fit c.args.next_a.now c.args.marks_a.now c.args.next_b.now c.args.marks_b.now c.args.letters c.args.start_a c.args.start_b = record {
-      first = c.in_range.ensures.0 c.if-not-in_range.false;
-      second = c.in_range-2.ensures.0 c.if-not-in_range-2.false;
-      letters = c.if-letters-gt-LETTERS.false;
-    } in
-    fit
-
 pub returns : goal.returns
 returns c =
     let fit : Fit c.args.next_a.now c.args.marks_a.now c.args.next_b.now c.args.marks_b.now c.args.letters c.args.start_a c.args.start_b = record {

@@ -1,27 +1,27 @@
 -- `print_batch` meets its contract.
-use Rattle.console_clauses.proofs.Batches.{written, ended_now, never_refused}
+use Rattle.console_clauses.proofs.Batches.{not_refused, written, written_more, ended_now}
 use Rattle.console_clauses.proofs.print_batch.Goals as goal
 
-pub returns-in-Written : goal.returns-in-Written
-returns-in-Written c =
+pub unwrap-handed-requires : goal.unwrap-handed-requires
+unwrap-handed-requires c =
     let a = c.args in
     let p = c.requires in
-    let t = c.empty_batch-text in
-    let h = c.lines-handed in
-    written a.reference a.target a.position t.result h.new.text h.result h.ensures p.valid p.proper p.position_bound t.ensures _ _ c.in-Written.is c.print-printed.ensures
+    not_refused a.reference a.target a.position _ _ p.valid p.proper p.position_bound c.empty_batch-text.ensures _ c.lines.ensures
 
-pub returns-in-Ended : goal.returns-in-Ended
-returns-in-Ended c =
+pub returns-in_default : goal.returns-in_default
+returns-in_default c =
     let a = c.args in
     let p = c.requires in
-    let t = c.empty_batch-text in
-    let h = c.lines-handed in
-    ended_now a.reference a.target a.position t.result h.new.text h.result h.ensures p.valid p.proper p.position_bound t.ensures c.in-Ended.is
+    ended_now a.reference a.target a.position _ _ p.valid p.proper p.position_bound c.empty_batch-text.ensures c.lines.ensures c.unwrap-handed.ensures c.in_default.not-Some
 
-pub returns-in-Refused : goal.returns-in-Refused
-returns-in-Refused c =
+pub returns-in-Ok : goal.returns-in-Ok
+returns-in-Ok c =
     let a = c.args in
     let p = c.requires in
-    let t = c.empty_batch-text in
-    let h = c.lines-handed in
-    never_refused a.reference a.target a.position t.result h.new.text h.result h.ensures p.valid p.proper p.position_bound t.ensures c.in-Refused.is
+    written_more a.reference a.target a.position _ _ p.valid p.proper p.position_bound c.empty_batch-text.ensures c.lines.ensures c.unwrap-handed.ensures c.in-Some.is c.in-Ok.ensures
+
+pub returns-in-Err : goal.returns-in-Err
+returns-in-Err c =
+    let a = c.args in
+    let p = c.requires in
+    written a.reference a.target a.position _ _ p.valid p.proper p.position_bound c.empty_batch-text.ensures c.lines.ensures c.unwrap-handed.ensures c.in-Some.is c.in-Err.ensures

@@ -1,11 +1,8 @@
 -- `digit_count` meets its contract: the count at each turn is where the counting has come to.
 use mathlib.Core.Path.{◌≡◌}
-use Prim.Native.Nat.{◌≤◌, ◌-◌}
+use Prim.Native.Nat.{◌-◌}
 use Rattle.decimal.specs.Decimal.{places}
 use Rattle.decimal.proofs.digit_count.Given as goal
 
 abbrev pub invariant-loop-count : goal.invariant-loop-count
-invariant-loop-count l = (l.count ≤ 20) × (places 19 1 l.n ≡ places (20 - l.count) l.count l.n)
-
-abbrev pub decreases-loop-count : goal.decreases-loop-count
-decreases-loop-count l = 20 - l.count
+invariant-loop-count l = places 19 1 l.n ≡ places (20 - l.count) l.count l.n

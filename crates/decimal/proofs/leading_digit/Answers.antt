@@ -1,19 +1,21 @@
--- `leading_digit` meets its contract: at each turn the power was taken away as often as the digit says, and goes into the rest no more often than turns are left.
+-- `leading_digit` meets its contract.
 use native.Mathlib.Omega.{arith}
-use Rattle.decimal.proofs.Laws.{taken_none, taken_all}
+use Rattle.decimal.proofs.Laws.{taken_none, taken_once, taken_enough, taken_all}
 use Rattle.decimal.proofs.leading_digit.Goals as goal
+use Rattle.decimal.proofs.leading_digit.Goals.{then-power-rest, else-power-rest}
 
-pub loop-left-init : goal.loop-left-init
-loop-left-init c = taken_none c.args.n c.args.power c.requires
+pub loop-turn-init : goal.loop-turn-init
+loop-turn-init c = taken_none c.args.n c.args.power c.requires
 
 pub overflow_add-digit : goal.overflow_add-digit
-overflow_add-digit c = omega (arith, c.loop-left.invariant.count)
+overflow_add-digit c = omega (arith, c.loop-turn.invariant.count)
 
-pub overflow_sub-left : goal.overflow_sub-left
-overflow_sub-left c = omega arith
-
-pub loop-left-smaller : goal.loop-left-smaller
-loop-left-smaller c = omega arith
+pub loop-turn-preserved : goal.loop-turn-preserved
+loop-turn-preserved c =
+    elim c.if-power-rest.branch [
+      | then-power-rest w ↦ taken_once c.loop-turn.invariant c.loop-turn-test.true w.if-power-rest.true w.digit-is w.rest-is
+      | else-power-rest w ↦ taken_enough c.loop-turn.invariant c.loop-turn-test.true w.if-power-rest.false w.digit-is w.rest-is
+    ]
 
 pub returns : goal.returns
-returns c = record { is = taken_all c.loop-left.invariant (omega arith); small = omega (arith, c.loop-left.invariant.count) }
+returns c = record { is = taken_all c.loop-turn.invariant (omega arith); small = omega (arith, c.loop-turn.invariant.count) }

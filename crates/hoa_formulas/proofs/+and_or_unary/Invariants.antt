@@ -18,15 +18,15 @@ decreases-unary l = (length l.text.now - l.at) * 3
 abbrev pub invariant-and-loop-sign : goal.invariant-and-loop-sign
 invariant-and-loop-sign l =
     let one = unary l.depth (atoms_of l.over) in
-    Joined "&" conjunction one l.text l.at (conjunctions one (left l.text l.at)) l.members l.end
+    Joined "&" conjunction one l.text l.at (conjunctions one (left l.text l.at)) l.read.members l.read.end
 
 abbrev pub decreases-and-loop-sign : goal.decreases-and-loop-sign
-decreases-and-loop-sign l = length l.text - l.end
+decreases-and-loop-sign l = length l.text - l.read.end
 
 abbrev pub invariant-or-loop-sign : goal.invariant-or-loop-sign
 invariant-or-loop-sign l =
     let one = unary l.depth (atoms_of l.over) in
-    Joined "|" disjunction (conjunctions one) l.text l.at (disjunctions one (left l.text l.at)) l.members l.end
+    Joined "|" disjunction (conjunctions one) l.text l.at (disjunctions one (left l.text l.at)) l.read.members l.read.end
 
 abbrev pub decreases-or-loop-sign : goal.decreases-or-loop-sign
-decreases-or-loop-sign l = length l.text - l.end
+decreases-or-loop-sign l = length l.text - l.read.end

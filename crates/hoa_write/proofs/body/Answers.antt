@@ -6,9 +6,6 @@ use Rattle.hoa_text.specs.Written.{state_lines, end_line}
 use Rattle.hoa_write.proofs.Writing.{wrote_rest, rest_room}
 use Rattle.hoa_write.proofs.body.Goals as goal
 
-pub word_line-at-requires : goal.word_line-at-requires
-word_line-at-requires c = omega (arith, c.requires.1)
-
 pub states-at-requires : goal.states-at-requires
 states-at-requires c =
     (c.requires.0, rest_room c.word_line-at.ensures (length (each c.args.a.states (state_lines c.args.a))) (omega (arith, c.requires.1, length-append (each c.args.a.states (state_lines c.args.a)) end_line)))

@@ -9,40 +9,28 @@ use Rattle.hoa_write.proofs.Writing.{each_more, each_room, each_whole, part_room
 use Rattle.hoa_write.proofs.states.Goals as goal
 
 pub loop-q-init : goal.loop-q-init
-loop-q-init c = (omega arith, wrote_none _ _ (omega arith))
+loop-q-init c = wrote_none _ _ (omega arith)
 
 pub slice_bounds-state_lines-count : goal.slice_bounds-state_lines-count
 slice_bounds-state_lines-count c =
-    omega (arith, c.loop-q.invariant.1.room, wrote_length c.loop-q.invariant.1)
+    omega (arith, c.loop-q.invariant.room, wrote_length c.loop-q.invariant)
 
 pub slice_bounds-state_lines-start : goal.slice_bounds-state_lines-start
 slice_bounds-state_lines-start c =
-    omega (arith, c.loop-q.invariant.1.room, wrote_length c.loop-q.invariant.1)
-
-pub slice_bounds-state_lines-end : goal.slice_bounds-state_lines-end
-slice_bounds-state_lines-end c = omega arith
+    omega (arith, c.loop-q.invariant.room, wrote_length c.loop-q.invariant)
 
 pub state_lines-at-requires : goal.state_lines-at-requires
 state_lines-at-requires c =
-    (c.requires.0, c.loop-q-test.true, part_room c.loop-q.out c.loop-q.at _ (each_room (state_lines c.args.a) c.loop-q.q c.args.a.states c.loop-q.invariant.1 c.loop-q-test.true (omega (arith, c.requires.1))))
+    (c.requires.0, c.loop-q-test.true, part_room c.loop-q.out c.loop-q.at _ (each_room (state_lines c.args.a) c.loop-q.q c.args.a.states c.loop-q.invariant c.loop-q-test.true (omega (arith, c.requires.1))))
 
 pub overflow_add-at : goal.overflow_add-at
 overflow_add-at c =
-    omega (arith, c.state_lines-at.ensures.room, part_le c.loop-q.out c.loop-q.at, c.loop-q.invariant.1.room, wrote_length c.loop-q.invariant.1, c.well_formed)
-
-pub overflow_add-q : goal.overflow_add-q
-overflow_add-q c = omega (arith, c.requires.0.states_le)
-
-pub loop-q-smaller : goal.loop-q-smaller
-loop-q-smaller c = omega arith
+    omega (arith, c.state_lines-at.ensures.room, part_le c.loop-q.out c.loop-q.at, c.loop-q.invariant.room, wrote_length c.loop-q.invariant, c.well_formed)
 
 pub loop-q-preserved : goal.loop-q-preserved
 loop-q-preserved c =
-    (omega arith, each_more (state_lines c.args.a) c.loop-q.q c.loop-q.invariant.1 (wrote_part c.loop-q.out c.loop-q.at (length c.loop-q.out - c.loop-q.at) (omega (arith, c.loop-q.invariant.1.room, wrote_length c.loop-q.invariant.1)) refl c.state_lines-at.ensures))
-
-pub shape_of-out : goal.shape_of-out
-shape_of-out c = wrote_length c.loop-q.invariant.1
+    each_more (state_lines c.args.a) c.loop-q.q c.loop-q.invariant (wrote_part c.loop-q.out c.loop-q.at (length c.loop-q.out - c.loop-q.at) (omega (arith, c.loop-q.invariant.room, wrote_length c.loop-q.invariant)) refl c.state_lines-at.ensures)
 
 pub returns : goal.returns
 returns c =
-    each_whole (state_lines c.args.a) c.loop-q.q c.args.a.states (omega arith) c.loop-q.invariant.1
+    each_whole (state_lines c.args.a) c.loop-q.q c.args.a.states (omega arith) c.loop-q.invariant

@@ -3,4 +3,4 @@ use Rattle.solver_scan.specs.Places.{end_placed}
 use Rattle.solver_scan.proofs.scan_end.Goals as goal
 
 pub returns : goal.returns
-returns c = rw (c.end_place-place.ensures, c.spelt.ensures, c.judged-fine.ensures) (end_placed _)
+returns c = rw (c.end_place.ensures, c.spelt.ensures, c.judged-fine.ensures) (end_placed _)

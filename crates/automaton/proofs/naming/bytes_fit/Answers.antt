@@ -1,23 +1,13 @@
 -- `naming::bytes_fit` meets its contract.
-use mathlib.Core.Path.{sym, ◌∙◌}
-use native.Mathlib.Omega.{arith}
-use Rattle.automaton.specs.Passes.{passes_none, passes_more, passes_all, fails}
+use Rattle.std.proofs.Common.{sym, ◌∙◌, arith}
+use Rattle.automaton.specs.Passes.{passes_none, passes_more, fails}
 use Rattle.automaton.proofs.naming.bytes_fit.Goals as goal
 
 pub loop-i-init : goal.loop-i-init
-loop-i-init c = (omega arith, passes_none _)
+loop-i-init c = passes_none _
 
 pub returns-then-not-byte_fits : goal.returns-then-not-byte_fits
-returns-then-not-byte_fits c = fails _ 64 _ c.loop-i-test.true (sym c.byte_fits.ensures ∙ c.if-not-byte_fits.true)
-
-pub overflow_add-i : goal.overflow_add-i
-overflow_add-i c = omega arith
-
-pub loop-i-smaller : goal.loop-i-smaller
-loop-i-smaller c = omega arith
+returns-then-not-byte_fits c = fails _ 64 c.loop-i.i (omega arith) (sym c.byte_fits.ensures ∙ c.if-not-byte_fits.true)
 
 pub loop-i-preserved : goal.loop-i-preserved
-loop-i-preserved c = (omega arith, passes_more _ _ c.loop-i.invariant.1 (sym c.byte_fits.ensures ∙ c.if-not-byte_fits.false))
-
-pub returns : goal.returns
-returns c = passes_all _ 64 _ c.loop-i.invariant.0 c.loop-i-test.false c.loop-i.invariant.1
+loop-i-preserved c = passes_more _ _ c.loop-i.invariant (sym c.byte_fits.ensures ∙ c.if-not-byte_fits.false)

@@ -1,7 +1,6 @@
 -- `powers::power_of_two` meets its contract.
 use Prim.Native.Nat.{min}
 use mathlib.Core.Path.{◌≡◌, refl}
-use mathlib.Core.Path.{refl}
 use native.Mathlib.Omega.{arith}
 use Rattle.bits.proofs.powers.power_of_two.Goals as goal
 
@@ -18,5 +17,5 @@ pub returns-in-3 : goal.returns-in-3
 returns-in-3 c = rw c.in-3.is (record { is = refl; bounded = (omega arith, omega arith) })
 
 pub returns-in_default : goal.returns-in_default
-returns-in_default c = let e : min c.args.k 4 ≡ 4 = omega (arith, c.in_default.in_default-own.rest) in
+returns-in_default c = let e : min c.args.k 4 ≡ 4 = omega arith in
     rw e (record { is = refl; bounded = (omega arith, omega arith) })

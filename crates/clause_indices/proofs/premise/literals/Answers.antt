@@ -1,16 +1,8 @@
 -- `literals` meets its contract.
 use mathlib.Core.Path.{◌∙◌}
-use lib.ListN.{length-set}
-use Rattle.decimal.specs.Writing.{wrote_length}
 use Rattle.clause_indices.specs.Literals.{stored, wrote_two_then, negative_of}
 use native.Mathlib.Omega.{arith}
 use Rattle.clause_indices.proofs.premise.literals.Goals as goal
-
-pub bounds-out-1 : goal.bounds-out-1
-bounds-out-1 c = simp length-set (omega arith)
-
-pub shape_of-out : goal.shape_of-out
-shape_of-out c = wrote_length c.marks.ensures ∙ simp length-set
 
 pub returns : goal.returns
 returns c =

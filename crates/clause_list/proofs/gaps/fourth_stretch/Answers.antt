@@ -1,14 +1,7 @@
 -- `gaps::fourth_stretch` meets its contract.
-use native.Mathlib.Omega.{arith}
 use Rattle.clause_list.proofs.Places.{transition_lt, entry_is, step_lt}
-use Rattle.clause_list.specs.Stretches.{alone, markings_le, all_markings_le, no_closing}
+use Rattle.clause_list.specs.Stretches.{alone, no_closing}
 use Rattle.clause_list.proofs.gaps.fourth_stretch.Goals as goal
-
-pub overflow_mul-result : goal.overflow_mul-result
-overflow_mul-result c = omega (arith, markings_le c.requires.0)
-
-pub overflow_mul-result-then-not-kept : goal.overflow_mul-result-then-not-kept
-overflow_mul-result-then-not-kept c = omega (arith, all_markings_le c.requires.0)
 
 pub returns-then-not-kept : goal.returns-then-not-kept
 returns-then-not-kept c =

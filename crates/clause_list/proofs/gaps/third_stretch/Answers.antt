@@ -1,17 +1,7 @@
 -- `gaps::third_stretch` meets its contract.
-use native.Mathlib.Omega.{arith}
 use Rattle.clause_list.proofs.Places.{indices_lt, entry_is}
-use Rattle.clause_list.specs.Stretches.{alone, markings_le, all_markings_le, state_le, no_row_lem, no_step}
+use Rattle.clause_list.specs.Stretches.{alone, no_row_lem, no_step}
 use Rattle.clause_list.proofs.gaps.third_stretch.Goals as goal
-
-pub overflow_mul-markings : goal.overflow_mul-markings
-overflow_mul-markings c = omega (arith, markings_le c.requires.0)
-
-pub overflow_mul-markings-2 : goal.overflow_mul-markings-2
-overflow_mul-markings-2 c = omega (arith, all_markings_le c.requires.0)
-
-pub overflow_mul-result : goal.overflow_mul-result
-overflow_mul-result c = omega (arith, state_le c.requires.0)
 
 pub returns-then-not-kept : goal.returns-then-not-kept
 returns-then-not-kept c =

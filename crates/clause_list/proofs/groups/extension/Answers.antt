@@ -1,8 +1,7 @@
 -- `extension` meets its contract.
 use mathlib.Core.Path.{◌∙◌}
-use lib.ListN.{length-set}
 use Rattle.decimal.specs.Writing.{wrote_length}
-use Rattle.clause_indices.specs.Literals.{stored, wrote_after, premise_short, premise_eight, positive_of}
+use Rattle.clause_indices.specs.Literals.{stored, wrote_after, premise_short, positive_of}
 use native.Mathlib.Omega.{arith}
 use Rattle.clause_list.proofs.groups.extension.Goals as goal
 
@@ -12,15 +11,6 @@ bounds-out-at c =
     let l = c.requires.clause_room_in_bounds in
     let p = c.premise-at.ensures.there f c.requires.within.0 c.requires.within.1 l in
     omega (arith, premise_short _ _ f p l, wrote_length p)
-
-pub overflow_add-result : goal.overflow_add-result
-overflow_add-result c =
-    let f = c.requires.fitting in
-    omega (arith, premise_eight _ _ f (c.premise-at.ensures.there f c.requires.within.0 c.requires.within.1 c.requires.clause_room_in_bounds))
-
-pub shape_of-out : goal.shape_of-out
-shape_of-out c =
-    simp length-set (wrote_length (c.premise-at.ensures.there c.requires.fitting c.requires.within.0 c.requires.within.1 c.requires.clause_room_in_bounds))
 
 pub returns : goal.returns
 returns c =

@@ -9,9 +9,6 @@ use Rattle.clause_list.specs.Rows.{kept_path}
 use Rattle.clause_list.proofs.Places.{kept_is, indices_lt, entry_is, closure_none, closure_written}
 use Rattle.clause_list.proofs.position.closure_at.Goals as goal
 
-pub closure_indices-indices-requires : goal.closure_indices-indices-requires
-closure_indices-indices-requires c = (c.requires.tables.fits, c.requires.x_bound.0)
-
 pub returns-then-not-kept-disagree : goal.returns-then-not-kept-disagree
 returns-then-not-kept-disagree c =
     let within : Within c.args.z c.closure_indices-indices.result = subst (Within c.args.z) (sym c.closure_indices-indices.ensures) (closure_within c.args.z _ _ c.requires.tables c.args.x c.requires.x_bound.0) in

@@ -1,10 +1,6 @@
 -- `firsts::fill` meets its contract.
-use Prim.Native.Nat.{◌-◌}
 use Rattle.clause_variables.proofs.FirstLaws.{Counted}
 use Rattle.clause_variables.proofs.firsts.fill.Given as goal
 
 abbrev pub invariant-loop-v : goal.invariant-loop-v
 invariant-loop-v l = Counted l.row l.numbers l.next l.v
-
-abbrev pub decreases-loop-v : goal.decreases-loop-v
-decreases-loop-v l = 16 - l.v

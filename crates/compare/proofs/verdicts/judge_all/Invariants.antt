@@ -1,5 +1,5 @@
 -- `verdicts::judge_all` meets its contract.
-use Prim.Native.Nat.{◌-◌, ◌/◌, ◌%◌}
+use Prim.Native.Nat.{◌/◌, ◌%◌}
 use Rattle.meaning.specs.BitSet.{has}
 use Rattle.compare.specs.Verdicts.{unlike}
 use Rattle.meaning.specs.CountingLaws.{Filled}
@@ -7,6 +7,3 @@ use Rattle.compare.proofs.verdicts.judge_all.Given as goal
 
 abbrev pub invariant-loop-m : goal.invariant-loop-m
 invariant-loop-m l = Filled (λ k. unlike (has l.first (k / 16)) (has l.second (k % 16))) 256 l.hits l.m
-
-abbrev pub decreases-loop-m : goal.decreases-loop-m
-decreases-loop-m l = 256 - l.m

@@ -1,23 +1,23 @@
 -- `closest::write_loop` meets its contract.
-use mathlib.Core.Path.{refl}
-use native.Mathlib.Omega.{arith}
-use Rattle.compare_shortest.proofs.ClosestLoop.{hit_place, loop_chain, loop_fits, written_none, written_found}
+use Rattle.std.proofs.Common.{refl, arith}
+use Rattle.std.proofs.lemmas.Option.{MatchOption-at_some}
+use Rattle.compare_shortest.specs.Explored.{hit_some, hit_none}
+use Rattle.compare_shortest.proofs.ClosestLoop.{loop_chain, loop_some, loop_fits, written_none, written_found}
 use Rattle.compare_shortest.proofs.closest.write_loop.Goals as goal
 
-pub search-stop-requires : goal.search-stop-requires
-search-stop-requires c = c.requires
-
-pub returns-then-hit-stop : goal.returns-then-hit-stop
-returns-then-hit-stop c = written_none c.search-stop.ensures.searched c.if-hit-stop.true refl
-
-pub depth-depth-requires : goal.depth-depth-requires
-depth-depth-requires c = tt
+pub returns-in_err-hit-clause-written : goal.returns-in_err-hit-clause-written
+returns-in_err-hit-clause-written c = rw c.from_residual.ensures (written_none (hit_none c.in_err-hit.was c.search-stop.ensures.searched) refl refl)
 
 pub write_word-requires : goal.write_word-requires
 write_word-requires c =
-    let g = hit_place c.search-stop.ensures.searched c.if-hit-stop.false in
-    (loop_chain c.search-stop.ensures.searched g c.depth-depth.result c.depth-depth.ensures, omega (arith, loop_fits c.search-stop.ensures.searched g, c.depth-depth.ensures))
+    let X = hit_some c.in_ok-hit.was c.search-stop.ensures.searched in
+    let g = MatchOption-at_some _ _ _ c.in_ok-hit.was c.search-stop.ensures.within in
+    (loop_chain X g c.depth-depth.result c.depth-depth.ensures, omega (arith, loop_fits X g, c.depth-depth.ensures))
 
-pub returns : goal.returns
-returns c =
-    written_found c.search-stop.ensures.searched (hit_place c.search-stop.ensures.searched c.if-hit-stop.false) c.depth-depth.ensures refl c.write_word.ensures
+pub returns-clause-written : goal.returns-clause-written
+returns-clause-written c =
+    written_found (hit_some c.in_ok-hit.was c.search-stop.ensures.searched) (MatchOption-at_some _ _ _ c.in_ok-hit.was c.search-stop.ensures.within) c.depth-depth.ensures refl c.write_word.ensures
+
+pub returns-clause-some : goal.returns-clause-some
+returns-clause-some c =
+    omega (arith, loop_some (hit_some c.in_ok-hit.was c.search-stop.ensures.searched) (MatchOption-at_some _ _ _ c.in_ok-hit.was c.search-stop.ensures.within), c.depth-depth.ensures)

@@ -1,10 +1,6 @@
 -- `product::fill` meets its contract.
-use Prim.Native.Nat.{◌-◌, ◌≤◌}
 use Rattle.compare_shortest.specs.ProductTables.{Tables}
 use Rattle.compare_shortest.proofs.product.fill.Given as goal
 
 abbrev pub invariant-loop-i : goal.invariant-loop-i
-invariant-loop-i l = Tables l.next_a l.marks_a l.next_b l.marks_b l.plain l.table l.i × (l.i ≤ 4096)
-
-abbrev pub decreases-loop-i : goal.decreases-loop-i
-decreases-loop-i l = 4096 - l.i
+invariant-loop-i l = Tables l.next_a l.marks_a l.next_b l.marks_b l.plain l.table l.i

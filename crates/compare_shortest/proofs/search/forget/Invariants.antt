@@ -1,10 +1,6 @@
 -- `search::forget` meets its contract.
-use Prim.Native.Nat.{◌-◌}
 use Rattle.compare_shortest.specs.Seen.{SeenAt}
 use Rattle.compare_shortest.proofs.search.forget.Given as goal
 
 abbrev pub invariant-loop-k : goal.invariant-loop-k
 invariant-loop-k l = SeenAt l.seen l.places l.k l.count
-
-abbrev pub decreases-loop-k : goal.decreases-loop-k
-decreases-loop-k l = l.count - l.k

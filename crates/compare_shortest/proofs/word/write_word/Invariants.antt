@@ -10,6 +10,3 @@ use Rattle.compare_shortest.proofs.word.write_word.Given as goal
 abbrev pub invariant-loop-left : goal.invariant-loop-left
 invariant-loop-left l =
     Reading (view l.places).edge (length l.places) (back (view l.places).edge l.depth l.place ++ drop l.depth l.initial.out) l.out l.left l.k × (length l.out ≡ length l.initial.out)
-
-abbrev pub decreases-loop-left : goal.decreases-loop-left
-decreases-loop-left l = l.left

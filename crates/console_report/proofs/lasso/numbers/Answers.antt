@@ -1,27 +1,39 @@
 -- `lasso::numbers` meets its contract.
-use Rattle.decimal.specs.Digits.{decimal_at_most}
+use mathlib.Core.Path.{◌≡◌, ap, ◌∙◌, subst}
+use mathlib.Core.List.{List}
+use Prim.Native.Nat.{ℕ, ◌<◌}
 use native.Mathlib.Omega.{arith}
-use Rattle.decimal.specs.Writing.{wrote_length}
-use Rattle.console_report.proofs.Spacing.{none_yet, one_more, stopped, ended}
+use lib.ListN.{length, get_or, take}
+use mir.Syntax.{w8}
+use mir.Val.{Fits}
+use Rattle.std.proofs.lemmas.List.{length-take, get_or-take, take_min}
+use Rattle.decimal.specs.Digits.{decimal_at_most}
+use Rattle.decimal.specs.Wrote.{Wrote}
+use Rattle.console_report.specs.Spaced.{spaced}
+use Rattle.console_report.proofs.Spacing.{none_yet, one_more, ended}
 use Rattle.console_report.proofs.lasso.numbers.Goals as goal
 
-pub loop-i-init : goal.loop-i-init
-loop-i-init c = (omega arith, none_yet _ _ _ (omega arith))
+below : (n : ℕ) (w : List ℕ) (i : ℕ) {b : ℕ} → b ≡ get_or (take n w) i 0 → i < length (take n w) → ((k : ℕ) → Fits w8 (get_or w k 0)) → b < 256
+below n w i e h f = omega (arith, f i, get_or-take n w i 0 (omega (arith, length-take n w)))
 
-pub shape_of-out-then-i-count : goal.shape_of-out-then-i-count
-shape_of-out-then-i-count c = wrote_length c.loop-i.invariant.1.is
-
-pub returns-then-i-count : goal.returns-then-i-count
-returns-then-i-count c = record { is = stopped _ _ _ c.loop-i.invariant.1 _ c.if-i-count.true; most = omega arith }
+pub loop-letter-init : goal.loop-letter-init
+loop-letter-init c = none_yet _ _ _ _ (omega arith)
 
 pub spaced-next-requires : goal.spaced-next-requires
-spaced-next-requires c = omega (arith, decimal_at_most c.wide.result 3 (omega arith) (omega (arith, c.wide.ensures, c.shared_slice_known-in-loop-i-1.given c.loop-i.i)), wrote_length c.loop-i.invariant.1.is)
+spaced-next-requires c =
+    let small = below c.min-size.result c.args.letters.now c.loop-letter.letter-index c.from.ensures c.loop-letter-test.true c.type_inv.letters in
+    omega (arith, decimal_at_most c.from.result 3 (omega arith) (omega (arith, small)), c.loop-letter.invariant.most, length-take c.min-size.result c.args.letters.now)
 
-pub loop-i-preserved : goal.loop-i-preserved
-loop-i-preserved c = (omega arith, one_more _ _ _ c.loop-i.invariant.1 c.loop-i-test.true c.wide.ensures (omega (arith, c.wide.ensures, c.shared_slice_known-in-loop-i-1.given c.loop-i.i)) c.spaced-next.ensures)
-
-pub shape_of-out : goal.shape_of-out
-shape_of-out c = wrote_length c.loop-i.invariant.1.is
+pub loop-letter-preserved : goal.loop-letter-preserved
+loop-letter-preserved c =
+    let small = below c.min-size.result c.args.letters.now c.loop-letter.letter-index c.from.ensures c.loop-letter-test.true c.type_inv.letters in
+    one_more _ _ _ _ c.loop-letter.invariant c.loop-letter-test.true c.from.ensures (omega (arith, decimal_at_most c.from.result 3 (omega arith) (omega (arith, small)))) c.spaced-next.ensures
 
 pub returns : goal.returns
-returns c = record { is = ended _ _ _ c.loop-i.invariant.1 _ c.loop-i-test.false c.loop-i.invariant.0; most = omega arith }
+returns c =
+    let w = c.args.letters.now in
+    let all = ap (λ n. take n w) c.min-size.ensures ∙ take_min c.args.count w in
+    record {
+      is = subst (λ u. Wrote c.args.out.now c.args.at (spaced u) c.loop-letter.out c.loop-letter.next) all (ended _ _ _ _ c.loop-letter.invariant c.loop-letter-test.false);
+      most = omega (arith, c.loop-letter.invariant.most, c.loop-letter.invariant.some, length-take c.min-size.result w);
+    }

@@ -19,4 +19,4 @@ pub returns-in-3 : goal.returns-in-3
 returns-in-3 c = subst (λ i. Satisfy 65280 (proposition i)) (sym c.in-3.is) (letters_with_lem 3)
 
 pub returns-in_default : goal.returns-in_default
-returns-in_default c = letters_past _ (omega (arith, c.in_default.in_default-own.rest.1, c.in_default.in_default-own.rest.0.1, c.in_default.in_default-own.rest.0.0.1, c.in_default.in_default-own.rest.0.0.0.1))
+returns-in_default c = letters_past _ (omega arith)

@@ -1,15 +1,15 @@
 -- `items::acceptance_item` meets its contract.
-use Rattle.hoa_header.proofs.Kept.{sets_twice, sets_refused, sets_kept}
+use mathlib.Core.Path.{sym, ◌∙◌}
+use Rattle.std.proofs.Common.{Err}
+use Rattle.std.proofs.lemmas.Result.{err_from_is_err_and}
+use Rattle.hoa_header.proofs.Kept.{sets_first, sets_kept}
 use Rattle.hoa_header.proofs.items.acceptance_item.Goals as goal
 
-pub returns-then-items : goal.returns-then-items
-returns-then-items c =
-    sets_twice c.args.text.now c.args.name c.args.at c.args.items c.refused.result c.refused.ensures c.if-items.true
+pub returns-in_err-read : goal.returns-in_err-read
+returns-in_err-read c =
+    let p = err_from_is_err_and c.from_residual.result c.from_residual.ensures.1 in
+    rw (p.1, p.2) (sets_first c.args.text.now c.args.name c.args.at c.args.items (sym c.is_some.ensures ∙ c.if-is_some.false) (Err _) (λ h k. c.in_err-read.ensures h))
 
-pub returns-in-Refused : goal.returns-in-Refused
-returns-in-Refused c =
-    sets_refused c.args.text.now c.args.name c.args.at c.args.items c.if-items.false c.acceptance.result c.acceptance.ensures _ c.in-Refused.is c.refused-in-Refused.result c.refused-in-Refused.ensures
-
-pub returns-in-Sets : goal.returns-in-Sets
-returns-in-Sets c =
-    sets_kept c.args.text.now c.args.name c.args.at c.args.items c.if-items.false c.acceptance.result c.acceptance.ensures _ _ _ c.in-Sets.is
+pub returns : goal.returns
+returns c =
+    sets_kept c.args.text.now c.args.name c.args.at c.args.items (sym c.is_some.ensures ∙ c.if-is_some.false) _ _ _ c.in_ok-read.ensures

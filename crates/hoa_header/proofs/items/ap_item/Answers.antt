@@ -1,11 +1,15 @@
 -- `items::ap_item` meets its contract.
-use Rattle.hoa_header.proofs.Kept.{names_twice, names_kept}
+use Rattle.std.proofs.Common.{Err}
+use mathlib.Core.Path.{sym, ◌∙◌}
+use Rattle.std.proofs.lemmas.Result.{err_from_is_err_and}
+use Rattle.hoa_header.proofs.Kept.{names_first, names_kept}
 use Rattle.hoa_header.proofs.items.ap_item.Goals as goal
 
-pub returns-then-items : goal.returns-then-items
-returns-then-items c =
-    names_twice c.args.text.now c.args.name c.args.at c.args.items c.refused.result c.refused.ensures c.if-items.true
+pub returns-in_err-read : goal.returns-in_err-read
+returns-in_err-read c =
+    let p = err_from_is_err_and c.from_residual.result c.from_residual.ensures.1 in
+    rw (p.1, p.2) (names_first c.args.text.now c.args.name c.args.at c.args.items (sym c.is_some.ensures ∙ c.if-is_some.false) (Err _) (λ h k. c.in_err-read.ensures h))
 
 pub returns : goal.returns
 returns c =
-    names_kept c.args.text.now c.args.name c.args.at c.args.items c.if-items.false c.propositions-read.result c.propositions-read.ensures
+    names_kept c.args.text.now c.args.name c.args.at c.args.items (sym c.is_some.ensures ∙ c.if-is_some.false) _ c.in_ok-read.ensures

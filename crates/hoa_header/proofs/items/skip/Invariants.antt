@@ -4,8 +4,8 @@ use lib.ListN.{length}
 use Rattle.hoa_header.proofs.Kept.{Skipping}
 use Rattle.hoa_header.proofs.items.skip.Given as goal
 
-abbrev pub invariant-loop-end : goal.invariant-loop-end
-invariant-loop-end l = Skipping l.text l.at l.end
+abbrev pub invariant-loop-next : goal.invariant-loop-next
+invariant-loop-next l = Skipping l.text l.at l.end
 
-abbrev pub decreases-loop-end : goal.decreases-loop-end
-decreases-loop-end l = length l.text - l.end
+abbrev pub decreases-loop-next : goal.decreases-loop-next
+decreases-loop-next l = length l.text - l.end

@@ -1,13 +1,8 @@
 -- `items::states_item` meets its contract.
-use mathlib.Core.Path.{subst}
-use Rattle.hoa_tokens.specs.Answers.{Reads}
-use Rattle.hoa_header.proofs.Kept.{states_twice, states_read}
+use mathlib.Core.Path.{sym, ◌∙◌}
+use Rattle.hoa_header.proofs.Kept.{states_read}
 use Rattle.hoa_header.proofs.items.states_item.Goals as goal
-
-pub returns-then-items : goal.returns-then-items
-returns-then-items c =
-    states_twice c.args.text.now c.args.name c.args.at c.args.items c.refused.result c.refused.ensures c.if-items.true
 
 pub returns-in-Number : goal.returns-in-Number
 returns-in-Number c =
-    states_read c.args.text.now c.args.name c.args.at c.args.items c.if-items.false _ _ _ (subst (Reads _ _) c.in-Number.is c.next_token.ensures) c.states_given.result c.states_given.ensures
+    states_read c.args.text.now c.args.name c.args.at c.args.items (sym c.is_some.ensures ∙ c.if-is_some.false) _ _ _ c.in-Number.ensures c.states_given.result c.states_given.ensures

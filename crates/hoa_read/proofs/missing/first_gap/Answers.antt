@@ -4,14 +4,11 @@ use borrow.Author.Count.{below_more}
 use Rattle.hoa_read.proofs.EndLaws.{row_full, gap_at, gap_nowhere}
 use Rattle.hoa_read.proofs.missing.first_gap.Goals as goal
 
-pub loop-state-init : goal.loop-state-init
-loop-state-init c = (omega arith, λ p h. absurd (omega arith))
-
 pub returns-then-letter-letters : goal.returns-then-letter-letters
-returns-then-letter-letters c = gap_at c.args.given.now _ _ c.requires.1 _ _ c.loop-state-test.true c.loop-state.invariant.1 c.lowest-letter.ensures c.if-letter-letters.true
+returns-then-letter-letters c = gap_at c.args.given.now _ _ c.requires.1 _ _ c.loop-state-test.true c.loop-state.invariant c.lowest-letter.ensures c.if-letter-letters.true
 
 pub loop-state-preserved : goal.loop-state-preserved
-loop-state-preserved c = (omega arith, below_more _ _ c.loop-state.invariant.1 (row_full _ _ _ c.requires.1 c.lowest-letter.ensures c.if-letter-letters.false))
+loop-state-preserved c = below_more _ _ c.loop-state.invariant (row_full _ _ _ c.requires.1 c.lowest-letter.ensures c.if-letter-letters.false)
 
 pub returns : goal.returns
-returns c = gap_nowhere c.args.given.now _ _ c.requires.1 _ c.loop-state-test.false c.loop-state.invariant.1
+returns c = gap_nowhere c.args.given.now _ _ c.requires.1 _ (omega arith) c.loop-state.invariant

@@ -1,5 +1,6 @@
 -- `bytes::word_end` meets its contract.
 use mathlib.Core.Path.{refl}
+use native.Mathlib.Omega.{arith}
 use mathlib.Core.Path.{sym, ◌∙◌}
 use Rattle.hoa_tokens.proofs.Laws.{scanned_none, scanned_more, scanned_run, scanned_end}
 use Rattle.hoa_tokens.proofs.bytes.word_end.Goals as goal
@@ -14,4 +15,4 @@ pub loop-end-preserved : goal.loop-end-preserved
 loop-end-preserved c = scanned_more c.loop-end.invariant c.loop-end-test.true (sym c.in_word.ensures ∙ c.if-not-in_word.false)
 
 pub returns : goal.returns
-returns c = scanned_end c.loop-end.invariant c.loop-end-test.false refl
+returns c = scanned_end c.loop-end.invariant (omega arith) refl

@@ -1,12 +1,7 @@
 -- `bytes::word_end` meets its contract.
-use Prim.Native.Nat.{◌-◌}
-use lib.ListN.{length}
 use Rattle.hoa_text.specs.Tokens.{in_word}
 use Rattle.hoa_tokens.proofs.Laws.{Scanned}
 use Rattle.hoa_tokens.proofs.bytes.word_end.Given as goal
 
 abbrev pub invariant-loop-end : goal.invariant-loop-end
 invariant-loop-end l = Scanned in_word l.text l.from l.end
-
-abbrev pub decreases-loop-end : goal.decreases-loop-end
-decreases-loop-end l = length l.text - l.end

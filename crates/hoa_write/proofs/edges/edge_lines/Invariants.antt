@@ -1,12 +1,8 @@
 -- `edge_lines` meets its contract: what is written is the lines of the first l letters.
-use Prim.Native.Nat.{◌≤◌, ◌-◌}
 use Rattle.meaning.specs.Counting.{each}
 use Rattle.decimal.specs.Wrote.{Wrote}
 use Rattle.hoa_text.specs.Written.{edge_line}
 use Rattle.hoa_write.proofs.edges.edge_lines.Given as goal
 
 abbrev pub invariant-loop-l : goal.invariant-loop-l
-invariant-loop-l l = (l.l ≤ l.count) × Wrote l.initial.out 0 (each l.l (edge_line l.a l.q)) l.out l.at
-
-abbrev pub decreases-loop-l : goal.decreases-loop-l
-decreases-loop-l l = l.count - l.l
+invariant-loop-l l = Wrote l.initial.out 0 (each l.l (edge_line l.a l.q)) l.out l.at

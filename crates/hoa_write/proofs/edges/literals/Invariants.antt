@@ -1,12 +1,8 @@
 -- `literals` meets its contract: what is written is the first i pieces.
-use Prim.Native.Nat.{◌≤◌, ◌-◌}
 use Rattle.meaning.specs.Counting.{each}
 use Rattle.decimal.specs.Wrote.{Wrote}
 use Rattle.hoa_write.specs.Pieces.{literal_piece}
 use Rattle.hoa_write.proofs.edges.literals.Given as goal
 
 abbrev pub invariant-loop-i : goal.invariant-loop-i
-invariant-loop-i l = (l.i ≤ l.k) × Wrote l.initial.out l.at (each l.i (literal_piece l.l)) l.out l.next
-
-abbrev pub decreases-loop-i : goal.decreases-loop-i
-decreases-loop-i l = l.k - l.i
+invariant-loop-i l = Wrote l.initial.out l.at (each l.i (literal_piece l.l)) l.out l.next

@@ -17,5 +17,5 @@ slice_bounds-word-end c =
 
 pub returns : goal.returns
 returns c =
-    let e = quoted_is c.args.a c.args.i in
+    let e = quoted_is c.args.a c.args.i c.from.ensures in
     named e (roomy_then c.byte-next.ensures.roomy (roomy_then c.byte-next-2.ensures.roomy (roomy_then c.word-next.ensures.roomy c.byte.ensures.roomy)) (omega (arith, c.requires.2, ap length e)))

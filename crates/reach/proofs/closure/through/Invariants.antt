@@ -1,10 +1,6 @@
 -- `closure::through` meets its contract.
-use Prim.Native.Nat.{◌-◌, ◌≤◌}
 use Rattle.reach.specs.Closing.{Through}
 use Rattle.reach.proofs.closure.through.Given as goal
 
-abbrev pub invariant-loop-u : goal.invariant-loop-u
-invariant-loop-u l = (l.u ≤ 16) × Through l.k l.initial.rows l.u l.rows
-
-abbrev pub decreases-loop-u : goal.decreases-loop-u
-decreases-loop-u l = 16 - l.u
+abbrev pub invariant-loop-row : goal.invariant-loop-row
+invariant-loop-row l = Through l.k l.initial.rows l.row-index l.rows

@@ -1,7 +1,0 @@
--- `end_text` meets its contract.
-use mathlib.Core.Path.{ap, ◌∙◌}
-use Rattle.solver_text.specs.Machine.{told}
-use Rattle.solver_text.proofs.end_text.Goals as goal
-
-pub returns : goal.returns
-returns c = c.replied.ensures ∙ ap told c.end-after.ensures
