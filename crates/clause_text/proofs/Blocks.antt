@@ -48,6 +48,7 @@ use Rattle.clause_order.specs.Passes.{Passes, transition_width, state_width}
 use Rattle.clause_line.specs.LineLength.{found_line_le}
 use Rattle.clause_text.specs.Filling.{Lines}
 use Rattle.clause_text.specs.NextLine.{Further}
+use Rattle.clause_text.specs.declared.keeping.Stores.{Stores}
 use Rattle.clause_text.specs.Blocks.{signed, middle_of, line_of, head_number, last_number, Firsts, Texts, ExtensionsShort, Extensions}
 use Rattle.clause_text.specs.LinesOut.{lines_append}
 
@@ -165,13 +166,13 @@ module _ {z : Sizes} {destinations marks : List ℕ} where
 -- ---- the loop over the lines of a block
 
 -- the lines on to a position are written, x has that position's indices as long as the block goes on, the first paths are those of x, and texts are kept
-pub record AtBlock (z : Sizes) (shorter longer destinations marks : List ℕ) (from : ℕ) (d : List ℕ) (at : ℕ) (e heads headSizes middles middleSizes lasts lastSizes : List ℕ) (x : Indices) (position to : ℕ) : Type 0 where
+pub record AtBlock (z : Sizes) (shorter longer destinations marks : List ℕ) (from : ℕ) (d : List ℕ) (at : ℕ) (e : List ℕ) (stores : Stores) (x : Indices) (position to : ℕ) : Type 0 where
   pub lines : Extensions z destinations marks from d at e to position
   pub here : x.v.0 < z.reference.states → (position < extensions z) × (x ≡ extension_indices z position)
   pub some : z.reference.states ≤ x.v.0 → from < position
   pub to_p : FirstPaths z x.q.0 x.u.0 x.p.0 shorter
   pub to_t : FirstPaths z x.q.0 x.u.0 x.t.0 longer
-  pub texts : Texts z heads headSizes middles middleSizes lasts lastSizes
+  pub texts : Texts z stores
 
 module _ {z : Sizes} {destinations marks : List ℕ} (tables : Tables z destinations marks) {position : ℕ} {x : Indices} (h : position < extensions z) (is : x ≡ extension_indices z position) where
   pub indices_within : Within z x
@@ -241,11 +242,11 @@ module _ {z : Sizes} {destinations marks : List ℕ} (tables : Tables z destinat
             next = refl;
           }
 
-      pub line_more : {from : ℕ} {d : List ℕ} {at : ℕ} {e f heads headSizes middles middleSizes lasts lastSizes : List ℕ} {to r : ℕ} {y : Indices}
+      pub line_more : {from : ℕ} {d : List ℕ} {at : ℕ} {e f : List ℕ} {stores : Stores} {to r : ℕ} {y : Indices}
           → Extensions z destinations marks from d at e to position → Wrote e to (line_text (line_of z x (head_number z x head) (last_number z x last F))) f r → Follows z x y
-          → Texts z heads headSizes middles middleSizes lasts lastSizes
-          → AtBlock z shorter longer destinations marks from d at f heads headSizes middles middleSizes lasts lastSizes y (position + 1) r
-      line_more {heads} {headSizes} {middles} {middleSizes} {lasts} {lastSizes} s v g t = record {
+          → Texts z stores
+          → AtBlock z shorter longer destinations marks from d at f stores y (position + 1) r
+      line_more s v g t = record {
         lines = extensions_then s (one_line v);
         here = λ l. g.next tables.fits position h is l;
         some = λ l. omega (arith, s.next);
@@ -265,10 +266,10 @@ module _ {z : Sizes} {destinations marks : List ℕ} (tables : Tables z destinat
       go (yes p) = ap (shared_at z destinations) p ∙ no-clause
       go (no p) = f.fails i (omega arith) ((stretch_is position W f.some).same i le (omega arith))
 
-  pub skip_more : (W : ℕ) {shorter longer : List ℕ} {from : ℕ} {d : List ℕ} {at : ℕ} {e heads headSizes middles middleSizes lasts lastSizes : List ℕ} {to : ℕ} {y : Place}
+  pub skip_more : (W : ℕ) {shorter longer : List ℕ} {from : ℕ} {d : List ℕ} {at : ℕ} {e : List ℕ} {stores : Stores} {to : ℕ} {y : Place}
       → Failing (extensions z) (shared_at z destinations) position W → shared_at z destinations position ≡ false
-      → AtBlock z shorter longer destinations marks from d at e heads headSizes middles middleSizes lasts lastSizes x position to → Passes z W x position y
-      → AtBlock z shorter longer destinations marks from d at e heads headSizes middles middleSizes lasts lastSizes y.indices y.position to
+      → AtBlock z shorter longer destinations marks from d at e stores x position to → Passes z W x position y
+      → AtBlock z shorter longer destinations marks from d at e stores y.indices y.position to
   skip_more W {e} {to} {y} f no-clause B g =
       let (j_is, j-le, on) = g.next tables.fits h is in
       let past = (stretch_is position W f.some).past in

@@ -10,6 +10,7 @@ use Rattle.clause_indices.specs.declared.Indices.{Indices}
 use Rattle.clause_indices.specs.Indices.{marks_of, extensions}
 use Rattle.clause_list.specs.Position.{extension_at, shared_at, extensions_at}
 use Rattle.clause_words.specs.Text.{spaced_text, line_text, lines_text}
+use Rattle.clause_text.specs.declared.keeping.Stores.{Stores}
 use Rattle.clause_text.specs.Kept.{Kept}
 
 abbrev pub signed : Bool → ℕ → ℤ
@@ -70,10 +71,10 @@ module _ (z : Sizes) where
   middle_texts k name = spaced_text (middle_of ((name - 1) / z.candidate.states) ((name - 1) % z.candidate.states) (k / M) (k % M))
 
   -- all that is kept while lines are written: first paths, middle literals and last paths
-  pub record Texts (heads headSizes middles middleSizes lasts lastSizes : List ℕ) : Type 0 where
-    pub heads_kept : Kept (literal_texts true) 16 1024 heads headSizes
-    pub middles_kept : Kept middle_texts 96 256 middles middleSizes
-    pub lasts_kept : Kept (literal_texts false) 16 1024 lasts lastSizes
+  pub record Texts (s : Stores) : Type 0 where
+    pub heads_kept : Kept (literal_texts true) 16 s.heads.now
+    pub middles_kept : Kept middle_texts 96 s.middles.now
+    pub lasts_kept : Kept (literal_texts false) 16 s.lasts.now
 
   -- ---- what is written
 

@@ -9,7 +9,7 @@ ghost use Rattle.clause_text.specs.Filling.{Filling};
 ghost use Rattle.clause_text.specs.NextLine.{NextLine, Further};
 
 use crate::block::block_lines;
-use crate::keeping::{LITERAL_BYTES, LITERALS, MIDDLE_BYTES, MIDDLES};
+use crate::keeping::{Store, Stores};
 use automaton::Automaton;
 use automaton::states::ReferenceState;
 use clause_indices::extent::Extent;
@@ -42,29 +42,16 @@ pub fn fill(
 {
     let mut x = from;
     let mut at: usize = 0;
-    let mut heads = [0u8; LITERAL_BYTES];
-    let mut head_sizes = [0usize; LITERALS];
-    let mut middles = [0u8; MIDDLE_BYTES];
-    let mut middle_sizes = [0usize; MIDDLES];
-    let mut lasts = [0u8; LITERAL_BYTES];
-    let mut last_sizes = [0usize; LITERALS];
+    let mut heads = Store::new();
+    let mut middles = Store::new();
+    let mut lasts = Store::new();
+    let mut stores = Stores {
+        heads: &mut heads,
+        middles: &mut middles,
+        lasts: &mut lasts,
+    };
     loop {
-        let next = more_lines(
-            z,
-            g,
-            start,
-            destinations,
-            marks,
-            x,
-            &mut heads,
-            &mut head_sizes,
-            &mut middles,
-            &mut middle_sizes,
-            &mut lasts,
-            &mut last_sizes,
-            text,
-            at,
-        );
+        let next = more_lines(z, g, start, destinations, marks, x, &mut stores, text, at);
         if (next.end == at) & (next.position == x) {
             return Filled {
                 end: at,
@@ -84,19 +71,14 @@ fn more_lines(
     destinations: &[u8; Automaton::CELLS],
     marks: &[u8; Automaton::CELLS],
     from: usize,
-    heads: &mut [u8; LITERAL_BYTES],
-    head_sizes: &mut [usize; LITERALS],
-    middles: &mut [u8; MIDDLE_BYTES],
-    middle_sizes: &mut [usize; MIDDLES],
-    lasts: &mut [u8; LITERAL_BYTES],
-    last_sizes: &mut [usize; LITERALS],
+    stores: &mut Stores<'_>,
     text: &mut [u8],
     at: usize,
 ) -> Filled
     requires tables { Tables z destinations.now marks.now × (start.0 < z.reference.states) }
     requires extent_of { ExtentOf z g × (at ≤ length text.old) }
-    requires texts { Texts z heads.old head_sizes.old middles.old middle_sizes.old lasts.old last_sizes.old }
-    ensures texts_2 { Texts z heads.new head_sizes.new middles.new middle_sizes.new lasts.new last_sizes.new }
+    requires texts { Texts z stores.old }
+    ensures texts_2 { Texts z stores.new }
     ensures further { Further (task_of z start.0 destinations.now marks.now) (number_of z) from text.old at text.new result.end result.position }
 {
     let room = text.len() - at;
@@ -104,20 +86,7 @@ fn more_lines(
     if (room < LINE) | (from < before) | (from >= before + g.third) {
         return next_line(z, g, start, destinations, marks, from, text, at);
     }
-    let filled = block_lines(
-        z,
-        destinations,
-        marks,
-        from - before,
-        heads,
-        head_sizes,
-        middles,
-        middle_sizes,
-        lasts,
-        last_sizes,
-        text,
-        at,
-    );
+    let filled = block_lines(z, destinations, marks, from - before, stores, text, at);
     Filled {
         end: filled.end,
         position: before + filled.position,

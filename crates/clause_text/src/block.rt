@@ -10,7 +10,7 @@ ghost use Rattle.clause_variables.specs.FirstPaths.{FirstPaths};
 ghost use Rattle.clause_text.specs.Blocks.{line_of, head_number, last_number, Firsts, NumberAt, Texts, ExtensionsShort, Extensions};
 
 use crate::batch::Filled;
-use crate::keeping::{LITERAL_BYTES, LITERALS, MIDDLE_BYTES, MIDDLES, write_literal, write_middle};
+use crate::keeping::Stores;
 use automaton::Automaton;
 use automaton::states::ReferenceState;
 use clause_indices::{Indices, entry};
@@ -28,22 +28,17 @@ pub fn block_lines(
     destinations: &[u8; Automaton::CELLS],
     marks: &[u8; Automaton::CELLS],
     from: usize,
-    heads: &mut [u8; LITERAL_BYTES],
-    head_sizes: &mut [usize; LITERALS],
-    middles: &mut [u8; MIDDLE_BYTES],
-    middle_sizes: &mut [usize; MIDDLES],
-    lasts: &mut [u8; LITERAL_BYTES],
-    last_sizes: &mut [usize; LITERALS],
+    stores: &mut Stores<'_>,
     text: &mut [u8],
     at: usize,
 ) -> Filled
     requires tables { Tables z destinations.now marks.now }
     requires extensions_short { ExtensionsShort z destinations.now marks.now }
     requires from_bound { (from < extensions z) × (at + 80 ≤ length text.old) }
-    requires texts { Texts z heads.old head_sizes.old middles.old middle_sizes.old lasts.old last_sizes.old }
+    requires texts { Texts z stores.old }
     ensures extensions { Extensions z destinations.now marks.now from text.old at text.new result.end result.position }
     ensures from_lt_position { from < result.position }
-    ensures texts_2 { Texts z heads.new head_sizes.new middles.new middle_sizes.new lasts.new last_sizes.new }
+    ensures texts_2 { Texts z stores.new }
 {
     let x = extension_indices(z, from);
     let mut shorter = [0usize; Automaton::STATES];
@@ -58,12 +53,7 @@ pub fn block_lines(
         marks,
         x,
         from,
-        heads,
-        head_sizes,
-        middles,
-        middle_sizes,
-        lasts,
-        last_sizes,
+        stores,
         text,
         at,
     )
@@ -78,12 +68,7 @@ fn lines_from(
     marks: &[u8; Automaton::CELLS],
     first: Indices,
     from: usize,
-    heads: &mut [u8; LITERAL_BYTES],
-    head_sizes: &mut [usize; LITERALS],
-    middles: &mut [u8; MIDDLE_BYTES],
-    middle_sizes: &mut [usize; MIDDLES],
-    lasts: &mut [u8; LITERAL_BYTES],
-    last_sizes: &mut [usize; LITERALS],
+    stores: &mut Stores<'_>,
     text: &mut [u8],
     at: usize,
 ) -> Filled
@@ -91,10 +76,10 @@ fn lines_from(
     requires extensions_short { ExtensionsShort z destinations.now marks.now }
     requires from_bound { (from < extensions z) × (first ≡ extension_indices z from) × (at + 80 ≤ length text.old) }
     requires first_paths { FirstPaths z first.q.0 first.u.0 first.p.0 shorter.now × FirstPaths z first.q.0 first.u.0 first.t.0 longer.now }
-    requires texts { Texts z heads.old head_sizes.old middles.old middle_sizes.old lasts.old last_sizes.old }
+    requires texts { Texts z stores.old }
     ensures extensions { Extensions z destinations.now marks.now from text.old at text.new result.end result.position }
     ensures from_lt_position { from < result.position }
-    ensures texts_2 { Texts z heads.new head_sizes.new middles.new middle_sizes.new lasts.new last_sizes.new }
+    ensures texts_2 { Texts z stores.new }
 {
     let mut x = first;
     let mut position = from;
@@ -123,21 +108,7 @@ fn lines_from(
             continue;
         }
         let f = entry(marks, v, x.l);
-        to = extension_line(
-            z,
-            x,
-            head,
-            last,
-            f,
-            heads,
-            head_sizes,
-            middles,
-            middle_sizes,
-            lasts,
-            last_sizes,
-            text,
-            to,
-        );
+        to = extension_line(z, x, head, last, f, stores, text, to);
         position += 1;
         x = following(z, x);
     }
@@ -162,27 +133,22 @@ fn extension_line(
     head: usize,
     last: usize,
     f: usize,
-    heads: &mut [u8; LITERAL_BYTES],
-    head_sizes: &mut [usize; LITERALS],
-    middles: &mut [u8; MIDDLE_BYTES],
-    middle_sizes: &mut [usize; MIDDLES],
-    lasts: &mut [u8; LITERAL_BYTES],
-    last_sizes: &mut [usize; LITERALS],
+    stores: &mut Stores<'_>,
     text: &mut [u8],
     at: usize,
 ) -> usize
     requires fitting { Fitting z × Within z x × InFile z (path_at x) × Firsts z head last f }
-    requires texts { Texts z heads.old head_sizes.old middles.old middle_sizes.old lasts.old last_sizes.old }
+    requires texts { Texts z stores.old }
     requires f_len_bound { (length (line_text (line_of z x (head_number z x head) (last_number z x last f))) ≤ 80) × (at + 80 ≤ length text.old) }
-    ensures texts_2 { Texts z heads.new head_sizes.new middles.new middle_sizes.new lasts.new last_sizes.new }
+    ensures texts_2 { Texts z stores.new }
     ensures wrote { Wrote text.old at (line_text (line_of z x (head_number z x head) (last_number z x last f))) text.new result }
 {
     let other = z.reference.subsets;
     let first = head + (x.i * other + x.j);
-    let a = write_literal(true, first, heads, head_sizes, text, at);
-    let b = write_middle(z, x, middles, middle_sizes, text, a);
+    let a = stores.heads.write_literal(true, first, text, at);
+    let b = stores.middles.write_middle(z, x, text, a);
     let second = last + ((x.i | x.k) * other + (x.j | f));
-    let c = write_literal(false, second, lasts, last_sizes, text, b);
+    let c = stores.lasts.write_literal(false, second, text, b);
     text[c] = b'0';
     text[c + 1] = b'\n';
     c + 2

@@ -7,7 +7,7 @@ use Rattle.clause_text.proofs.Batches.{lines_none, lines_then, lines_room, lines
 use Rattle.clause_text.proofs.batch.fill.Goals as goal
 
 pub loop-at-init : goal.loop-at-init
-loop-at-init c = (lines_none _ _ _ _ _ (omega arith), record { heads_kept = kept_none; middles_kept = kept_none; lasts_kept = kept_none })
+loop-at-init c = (lines_none _ _ _ _ _ (omega arith), record { heads_kept = kept_none c.new-heads.ensures; middles_kept = kept_none c.new-middles.ensures; lasts_kept = kept_none c.new-lasts.ensures })
 
 pub more_lines-next-requires : goal.more_lines-next-requires
 more_lines-next-requires c = record { tables = c.requires.tables; extent_of = (c.requires.extent_of, lines_room c.loop-at.invariant.0); texts = c.loop-at.invariant.1 }

@@ -8,7 +8,7 @@ use Rattle.clause_text.proofs.batch.fill.Given as goal
 
 abbrev pub invariant-loop-at : goal.invariant-loop-at
 invariant-loop-at l =
-    Lines (task_of l.z l.start.0 l.destinations l.marks) (number_of l.z) l.from l.initial.text 0 l.text l.at l.x × Texts l.z l.heads l.head_sizes l.middles l.middle_sizes l.lasts l.last_sizes
+    Lines (task_of l.z l.start.0 l.destinations l.marks) (number_of l.z) l.from l.initial.text 0 l.text l.at l.x × Texts l.z l.stores
 
 abbrev pub decreases-loop-at : goal.decreases-loop-at
 decreases-loop-at l = l.g.all - l.x

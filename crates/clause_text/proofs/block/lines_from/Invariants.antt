@@ -6,7 +6,7 @@ use Rattle.clause_text.proofs.block.lines_from.Given as goal
 
 abbrev pub invariant-loop-z : goal.invariant-loop-z
 invariant-loop-z l =
-    AtBlock l.z l.shorter l.longer l.destinations l.marks l.from l.initial.text l.at l.text l.heads l.head_sizes l.middles l.middle_sizes l.lasts l.last_sizes l.x l.position l.to
+    AtBlock l.z l.shorter l.longer l.destinations l.marks l.from l.initial.text l.at l.text l.stores l.x l.position l.to
 
 abbrev pub decreases-loop-z : goal.decreases-loop-z
 decreases-loop-z l = extensions l.z - l.position
