@@ -1,4 +1,4 @@
-// The contracts of the functions that another crate can name, and the names in them.
+// The contracts of the functions that another crate can name, what impls say of their traits' methods, and the names in them.
 use crate::antt::{words, Imports};
 use crate::{files, Room};
 use std::fs;
@@ -28,6 +28,11 @@ fn of_file(krate: &str, text: &str) -> Vec<(Room, String, String)> {
     let mut function: Option<&str> = None;
     let mut begun = false;
     for line in text.lines().map(str::trim) {
+        // what an impl says of its trait's methods, as `ghost from_gives = { .. };`
+        if line.starts_with("ghost ") && !line.starts_with("ghost use ") {
+            let names = words(line).into_iter().filter_map(|word| imports.resolve(&word));
+            found.extend(names.map(|(room, name)| (room, name, format!("an impl of {krate}"))));
+        }
         if let Some(rest) = public(line) {
             function = rest.split(['(', '<']).next();
             begun = false;

@@ -5,7 +5,7 @@ ghost use Rattle.std.specs.Prelude.{◌≡◌, ◌≤◌, length};
 ghost use Rattle.clause_sizes.specs.Measured.{Measured};
 ghost use Rattle.clause_sizes.specs.Sizes.{target_of};
 ghost use Rattle.clause_indices.specs.Indices.{clause_room};
-ghost use Rattle.clause_step.specs.Step.{fresh_position, Stepped, StepFound};
+ghost use Rattle.clause_step.specs.Step.{fresh_position, Stepped, StepFound, position_after};
 
 use automaton::Automaton;
 use automaton::states::ReferenceState;
@@ -34,7 +34,17 @@ pub fn fresh() -> u64
     0
 }
 
-// Writes the next clause of the file for the reference and the target. "A refused step keeps its position": the caller has it still.
+// The position for the call after one from `position`: "A refused step keeps its position."
+pub fn position_after(position: u64, answer: Result<Handed, Refusal>) -> u64
+    ensures { result ≡ position_after position answer }
+{
+    match answer {
+        Ok(handed) => handed.position,
+        Err(_) => position,
+    }
+}
+
+// Writes the next clause of the file for the reference and the target. A refusal carries no position; `position_after` has the one to go on from.
 pub fn step(
     reference: Automaton,
     target: Target,

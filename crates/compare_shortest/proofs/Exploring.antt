@@ -16,6 +16,11 @@ pub record Exploring (D H seen places : List ℕ) (L root pair bound n h : ℕ) 
   pub miss : Missed places H pair 1 n n
   pub near : (j : ℕ) → j < n → depth_of (at places j) ≤ bound
 
+-- after one turn of it: k is the first place of a hit, or m
+pub record Turned (D H seen places : List ℕ) (L root pair bound m k h : ℕ) : Type 0 where
+  pub stop : k < m → Explored D H seen places L root pair bound m k
+  pub go_on : m ≤ k → Exploring D H seen places L root pair bound m (h + 1)
+
 pub exploring_root : {D H seen places : List ℕ} {L root pair : ℕ} (bound : ℕ) → State D seen places L root 1 0 0 → Exploring D H seen places L root pair bound 1 0
 exploring_root {places = places} bound S = record {
   state = S;
@@ -65,3 +70,6 @@ module _ {D H seen places : List ℕ} {L root pair bound n h : ℕ} (E : Explori
       miss = record { low = omega (arith, T.search.some); high = omega arith; before = λ j a b. first_of_all.before j a (omega arith) };
       near = near_all;
     }
+
+    pub turn : Turned D H Seen-next places-next L root pair bound m k h
+    turn = record { stop = stopped_hit; go_on = goes_on }

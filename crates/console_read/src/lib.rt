@@ -36,6 +36,20 @@ pub fn argument_or_empty(rt: &HostRuntime, i: usize, word: &mut [u8]) -> usize
     rt.arg(i, word).unwrap_or(0)
 }
 
+// Zeros, which hold any path.
+pub fn buffer() -> [u8; PATH]
+    ensures { 4096 ≡ length result }
+{
+    [0; PATH]
+}
+
+// Zeros, a piece of a long text.
+pub fn large_buffer() -> [u8; PIECE]
+    ensures { 65536 ≡ length result }
+{
+    [0; PIECE]
+}
+
 // How long an argument is that stands in the buffer. Where it does not, standard error has the reason.
 pub fn argument(rt: &HostRuntime, i: usize, word: &mut [u8]) -> Option<usize>
     ensures { ArgumentRead (length word.new) result }

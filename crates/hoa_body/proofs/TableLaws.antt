@@ -72,21 +72,14 @@ module _ (q members v : ℕ) where
       others : (k : ℕ) → k ≢ q * 16 + n → get_or cells k 0 ≡ cond (among (n + 1) k) v (get_or entry k 0)
       others k p = f.cells k ∙ ap (λ b. cond b v (get_or entry k 0)) (sym (elsewhere k p))
 
-      pub filled_more : has members n ≡ true → q * 16 + n < length cells → Filled q members (n + 1) v entry (set cells (q * 16 + n) v)
-      filled_more e room = record { size = length-set cells (q * 16 + n) v ∙ f.size; cells = λ k. go k (ℕ_discrete k (q * 16 + n)) }
+      pub filled_next : (w : ℕ) → q * 16 + n < length cells → w ≡ cond (has members n) v (get_or cells (q * 16 + n) 0) → Filled q members (n + 1) v entry (set cells (q * 16 + n) w)
+      filled_next w room e = record { size = length-set cells (q * 16 + n) w ∙ f.size; cells = λ k. go k (ℕ_discrete k (q * 16 + n)) }
         where
-          go : (k : ℕ) → Dec (k ≡ q * 16 + n) → get_or (set cells (q * 16 + n) v) k 0 ≡ cond (among (n + 1) k) v (get_or entry k 0)
-          go k (no p) = get_or-set_other cells (q * 16 + n) k v 0 p ∙ others k p
+          go : (k : ℕ) → Dec (k ≡ q * 16 + n) → get_or (set cells (q * 16 + n) w) k 0 ≡ cond (among (n + 1) k) v (get_or entry k 0)
+          go k (no p) = get_or-set_other cells (q * 16 + n) k w 0 p ∙ others k p
           go k (yes p) =
-              ap (λ j. get_or (set cells (q * 16 + n) v) j 0) p ∙ get_or-set_same cells (q * 16 + n) v 0 room
-              ∙ sym (ap (λ b. cond b v (get_or entry k 0)) (here k p ∙ e))
-
-      pub filled_same : has members n ≡ false → Filled q members (n + 1) v entry cells
-      filled_same e = record { size = f.size; cells = λ k. go k (ℕ_discrete k (q * 16 + n)) }
-        where
-          go : (k : ℕ) → Dec (k ≡ q * 16 + n) → get_or cells k 0 ≡ cond (among (n + 1) k) v (get_or entry k 0)
-          go k (no p) = others k p
-          go k (yes p) = was k p ∙ sym (ap (λ b. cond b v (get_or entry k 0)) (here k p ∙ e))
+              ap (λ j. get_or (set cells (q * 16 + n) w) j 0) p ∙ get_or-set_same cells (q * 16 + n) w 0 room ∙ e
+              ∙ ap (λ j. cond (has members n) v (get_or cells j 0)) (sym p) ∙ ap₂ (λ b x. cond b v x) (sym (here k p)) (was k p)
 
 -- ---- states
 

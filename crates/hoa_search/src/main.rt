@@ -1,6 +1,9 @@
 // Replays solver answers to the search for fewer states, and prints the next question, or the best table once it is finished.
 #![tactic(auto)]
 
+ghost use Rattle.std.specs.Prelude.{◌≡◌, IfSome};
+ghost use Rattle.search.specs.Replies.{next};
+
 use automaton::Automaton;
 use clause_sizes::Target;
 use compare::{LOOP, PREFIX};
@@ -107,15 +110,14 @@ fn taken(
     reply: Result<Reply, Refusal>,
     path: &[u8],
     place: Place,
-) -> Option<Search> {
-    match reply {
-        Ok(Reply::Taken(next)) => Some(next),
-        Ok(Reply::Finished) => Some(search),
-        Err(x) => {
-            refuse(rt, x, path, place);
-            None
-        }
+) -> Option<Search>
+    ensures { IfSome result (λ s. s ≡ next search reply) }
+{
+    if let Err(x) = reply {
+        refuse(rt, x, path, place);
+        return None;
     }
+    Some(search::next(search, reply))
 }
 
 fn print_search(rt: &HostRuntime, search: Search) {

@@ -3,7 +3,7 @@
 
 ghost use Rattle.std.specs.Prelude.{◌≡◌, ◌↔◌, true};
 ghost use Rattle.search_rule.specs.Rule.{none, unknown};
-ghost use Rattle.search.specs.Replies.{InRange, Started, Told, AskedFor, Found};
+ghost use Rattle.search.specs.Replies.{InRange, next, Started, Told, AskedFor, Found};
 
 use acceptance::every_set;
 use automaton::Automaton;
@@ -11,13 +11,23 @@ use compare::{LOOP, PREFIX, compare};
 use refusals::Refusal;
 use search_rule::Search;
 
-// What is replied where nothing is turned down. The caller's own search goes on where it is refused, and where it was finished.
+// What is replied where nothing is turned down.
 #[derive(Clone, Copy)]
 pub enum Reply {
     // The search for the next call.
     Taken(Search),
     // The search was finished before.
     Finished,
+}
+
+// The search for the next call. It is the caller's own where the call was refused, and where the search was finished before.
+pub fn next(search: Search, reply: Result<Reply, Refusal>) -> Search
+    ensures { result ≡ next search reply }
+{
+    match reply {
+        Ok(Reply::Taken(taken)) => taken,
+        Ok(Reply::Finished) | Err(_) => search,
+    }
 }
 
 // A search with its first question.
