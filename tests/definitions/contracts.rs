@@ -27,11 +27,15 @@ fn of_file(krate: &str, text: &str) -> Vec<(Room, String, String)> {
     let mut found = Vec::new();
     let mut function: Option<&str> = None;
     let mut begun = false;
+    let mut ghost = false;
     for line in text.lines().map(str::trim) {
-        // what an impl says of its trait's methods, as `ghost from_gives = { .. };`
-        if line.starts_with("ghost ") && !line.starts_with("ghost use ") {
+        // what an impl says of its trait's methods, as `ghost from_gives = { .. };`, perhaps over several lines
+        ghost |= line.starts_with("ghost ") && !line.starts_with("ghost use ");
+        if ghost {
             let names = words(line).into_iter().filter_map(|word| imports.resolve(&word));
             found.extend(names.map(|(room, name)| (room, name, format!("an impl of {krate}"))));
+            ghost = !line.ends_with(';');
+            continue;
         }
         if let Some(rest) = public(line) {
             function = rest.split(['(', '<']).next();

@@ -2,7 +2,7 @@
 // calls answered.
 #![tactic(auto)]
 
-ghost use Rattle.std.specs.Prelude.{◌≡◌, ◌≤◌, length, None};
+ghost use Rattle.std.specs.Prelude.{◌≡◌, ◌≤◌, length, replicate, None};
 ghost use Rattle.console_read.specs.Counts.{ReadOnce, InputRead, FileRead, ArgumentRead};
 
 use console_failures::fail;
@@ -38,14 +38,16 @@ pub fn argument_or_empty(rt: &HostRuntime, i: usize, word: &mut [u8]) -> usize
 
 // Zeros, which hold any path.
 pub fn buffer() -> [u8; PATH]
-    ensures { 4096 ≡ length result }
+    ensures size { 4096 ≡ length result }
+    ensures zeros { result ≡ replicate 4096 0 }
 {
     [0; PATH]
 }
 
 // Zeros, a piece of a long text.
 pub fn large_buffer() -> [u8; PIECE]
-    ensures { 65536 ≡ length result }
+    ensures size { 65536 ≡ length result }
+    ensures zeros { result ≡ replicate 65536 0 }
 {
     [0; PIECE]
 }

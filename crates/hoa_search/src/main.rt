@@ -1,7 +1,7 @@
 // Replays solver answers to the search for fewer states, and prints the next question, or the best table once it is finished.
 #![tactic(auto)]
 
-ghost use Rattle.std.specs.Prelude.{◌≡◌, IfSome};
+ghost use Rattle.std.specs.Prelude.{◌≡◌, cond, is_ok, Some, None};
 ghost use Rattle.search.specs.Replies.{next};
 
 use automaton::Automaton;
@@ -111,7 +111,7 @@ fn taken(
     path: &[u8],
     place: Place,
 ) -> Option<Search>
-    ensures { IfSome result (λ s. s ≡ next search reply) }
+    ensures { result ≡ cond (is_ok reply) (Some (next search reply)) None }
 {
     if let Err(x) = reply {
         refuse(rt, x, path, place);
